@@ -1,5 +1,5 @@
 -- Faults with a cause: a fault is answered only where a count of faults rose in that call.
-use Rattle.std.specs.Prelude.{◌≡◌, ◌+◌, ◌-◌, ◌^◌, ◌≤◌, ℕ, min, Result, OnOk, OnErr}
+use Rattle.std.specs.Prelude.{◌+◌, ◌-◌, ◌^◌, ◌≤◌, ℕ, min, Result, OnErr}
 
 -- the count rose, or stands at its end, where a count kept in 64 bits stays
 abbrev pub Rose : ℕ → ℕ → Type 0

@@ -1,2 +1,5 @@
 pub mod Causes
+pub mod LineStarts
+pub mod Lines
+pub mod Places
 pub mod RuleName

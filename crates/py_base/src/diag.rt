@@ -63,7 +63,7 @@ impl Rule {
 
 /// One diagnostic of a text. `at` has the line and column of its beginning and then those of its
 /// end, counted from 0, columns in characters.
-#[derive(Debug, Drop)]
+#[derive(Debug, PartialEq, Eq, Drop)]
 pub struct Diag {
     pub at: [u32; 4],
     pub rule: Rule,

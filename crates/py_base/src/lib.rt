@@ -1,16 +1,21 @@
 //! The words that every layer shares: texts and lists as contracts see them, places in a text,
-//! diagnostics, and the two reasons for which a call can stop.
+//! diagnostics, a count of steps, and the two reasons for which a call can stop.
 //!
 //! In one sentence: a place and an offset of a text determine each other, for every offset of it.
+//! The definitions behind it are `physical_lines` (specs/Lines.antt), the lines of a text with their
+//! line ends, and `place_of` and `offset_of` (specs/Places.antt), which speak of their lengths.
 //! Nothing stands below this crate.
 #![tactic(auto)]
 
 pub mod diag;
 pub mod ids;
 pub mod key;
+pub mod laws;
 pub mod line_map;
+pub mod line_scan;
 pub mod list;
 pub mod span;
+pub mod steps;
 pub mod stop;
 pub mod text;
 
@@ -20,5 +25,6 @@ pub use key::Key;
 pub use line_map::LineMap;
 pub use list::List;
 pub use span::{Place, Span};
+pub use steps::Steps;
 pub use stop::{NoMemory, Stop};
 pub use text::Text;

@@ -1,9 +1,204 @@
-//! Places of a text.
-use std::alloc::Global;
+//! Places of a text: from an offset to its line and column, and back.
+ghost use Rattle.std.specs.Prelude.{◌≡◌, ℕ, ◌+◌, ◌^◌, ◌<◌, ◌≤◌, List, map, length, sum, chars, IfOk, IfSome};
+ghost use Rattle.std.specs.List.Sorted.{IsNonDecreasing, IsPartitionPoint};
+ghost use Rattle.py_base.specs.Lines.{physical_lines, ends_line};
+ghost use Rattle.py_base.specs.Places.{place_of, offset_of, columns};
 
-/// Where the lines of a text begin.
+use crate::span::Place;
+use crate::stop::NoMemory;
+use std::alloc::Global;
+use std::marker::Model;
+
+/// The lines of a text. A contract sees it as the lengths of the physical lines, each with its line
+/// end, in characters: for `"a\r\nb"` these are 3 and 1.
+///
+/// Offsets, lines and columns count from 0, offsets and columns in characters (Unicode scalar
+/// values). The characters of a line end belong to the line that they end, and CR LF is one line
+/// end. A text that ends with a line end has an empty last line.
 #[derive(Debug, Drop)]
 pub struct LineMap {
     starts: Vec<u32>,
     count: u32,
+}
+
+impl Model for LineMap {
+    ghost use Rattle.std.specs.Prelude.{List, ℕ};
+
+    ghost Value = { List ℕ };
+
+    ghost use Rattle.py_base.specs.LineStarts.{lengths_between, AreStarts};
+
+    ghost view = { λ lines. lengths_between lines.starts.items lines.count };
+
+    ghost invariant = { λ lines. AreStarts lines.starts.items lines.count };
+}
+
+impl LineMap {
+    /// The longest text that has a map, in bytes.
+    pub const MAX_BYTES: usize = 4_194_304;
+
+    /// The map of a text. `NoMemory` where the table of its lines could not be stored.
+    ///
+    /// Python 3.12 language reference, 2.1.2, "Physical lines".
+    pub fn new(alloc: Global, text: &str) -> Result<LineMap, NoMemory>
+        requires { length text.now ≤ LineMap.MAX_BYTES }
+        ensures { IfOk result (λ lines. lines ≡ map length (physical_lines (chars text.now))) }
+    {
+        let mut starts = Vec::new(alloc);
+        starts.push(0)?;
+        let mut count = 0;
+        let mut rest = text.chars();
+        while let Some(c) = rest.next() {
+            count += 1;
+            if is_line_end(c, rest.as_str()) {
+                starts.push(count)?;
+            }
+        }
+        Ok(LineMap { starts, count })
+    }
+
+    /// How many characters the text has.
+    pub fn char_count(&self) -> u32
+        ensures { result ≡ sum self.now }
+    {
+        self.count
+    }
+
+    /// The place of the character at this offset, or of the end of the text.
+    pub fn place(&self, offset: u32) -> Place
+        requires { offset ≤ sum self.now }
+        ensures place { result ≡ place_of self.now offset }
+        ensures inverse { offset_of self.now result ≡ Some offset }
+    {
+        let starts = self.starts.as_slice();
+        let line = count_up_to(starts, offset) - 1;
+        Place {
+            line: line as u32,
+            col: offset - starts[line],
+        }
+    }
+
+    /// The offset of a place. `None` exactly where the line is not there, or the column is past the
+    /// last character of the line's end, in the last line past the end of the text.
+    pub fn offset(&self, place: Place) -> Option<u32>
+        ensures offset { result ≡ offset_of self.now place }
+        ensures inverse { IfSome result (λ at. place_of self.now at ≡ place) }
+    {
+        let line = place.line as usize;
+        let start = *self.starts.as_slice().get(line)?;
+        if place.col < self.columns(line) {
+            Some(start + place.col)
+        } else {
+            None
+        }
+    }
+
+    /// How many columns a line has: one for each of its characters, and in the last line one more,
+    /// the end of the text.
+    fn columns(&self, line: usize) -> u32
+        requires { line < length self.now }
+        ensures { result ≡ columns self.now line }
+    {
+        let starts = self.starts.as_slice();
+        let start = starts[line];
+        match starts.get(line + 1) {
+            Some(next) => *next - start,
+            None => self.count + 1 - start,
+        }
+    }
+}
+
+/// How many of these numbers are at most `limit`. It is found by halving.
+fn count_up_to(rising: &[u32], limit: u32) -> usize
+    requires { IsNonDecreasing rising.now }
+    ensures within { result ≤ length rising.now }
+    ensures parts { IsPartitionPoint (λ number. number ≤ limit) (λ number. limit < number) rising.now result }
+{
+    rising.partition_point(|number| *number <= limit)
+}
+
+/// Whether a line ends behind the character `c`, before the rest of the text: behind LF, and behind
+/// a CR that no LF follows.
+pub(crate) fn is_line_end(c: char, rest: &str) -> bool
+    ensures { result ≡ ends_line c (chars rest.now) }
+{
+    match c {
+        '\n' => true,
+        '\r' => rest.chars().next() != Some('\n'),
+        _ => false,
+    }
+}
+
+#[cfg(test)]
+mod tests {
+    use super::*;
+    use crate::laws::lines_have_all;
+    use crate::line_scan::place_by_counting;
+    use std::process::Abort;
+
+    /// An offset of a text with its line and column, worked by hand.
+    const PLACES: [(&str, u32, u32, u32); 15] = [
+        ("", 0, 0, 0),
+        ("a\nb", 1, 0, 1),
+        ("a\nb", 2, 1, 0),
+        ("a\nb", 3, 1, 1),
+        ("a\n", 2, 1, 0),
+        ("a\r\nb", 1, 0, 1),
+        ("a\r\nb", 2, 0, 2),
+        ("a\r\nb", 3, 1, 0),
+        ("a\rb", 2, 1, 0),
+        ("\r\r\n", 1, 1, 0),
+        ("\r\r\n", 3, 2, 0),
+        ("\n\r", 1, 1, 0),
+        ("\n\r", 2, 2, 0),
+        ("é\u{1F40D}\nx", 2, 0, 2),
+        ("é\u{1F40D}\nx", 4, 1, 1),
+    ];
+
+    /// A line and a column that a text does not have.
+    const OUTSIDE: [(&str, u32, u32); 8] = [
+        ("", 0, 1),
+        ("", 1, 0),
+        ("a\nb", 0, 2),
+        ("a\nb", 1, 2),
+        ("a\nb", 2, 0),
+        ("a\r\nb", 0, 3),
+        ("a\n", 1, 1),
+        ("é\nx", 0, 3),
+    ];
+
+    fn check_place(
+        rt: &impl Abort,
+        alloc: Global,
+        text: &str,
+        offset: u32,
+        place: Place,
+    ) -> Result<(), NoMemory> {
+        assert!(rt; text.len() <= LineMap::MAX_BYTES);
+        let map = LineMap::new(alloc, text)?;
+        assert!(rt; offset <= map.char_count());
+        lines_have_all();
+        assert_eq!(rt; map.place(offset), place, "in {text:?}");
+        assert_eq!(rt; place_by_counting(text, offset), place, "in {text:?}");
+        assert_eq!(rt; map.offset(place), Some(offset), "in {text:?}");
+        Ok(())
+    }
+
+    #[test]
+    fn places_and_offsets(rt: HostRuntime) -> Result<(), NoMemory> {
+        for (text, offset, line, col) in PLACES {
+            check_place(&rt, rt.alloc(), text, offset, Place { line, col })?;
+        }
+        Ok(())
+    }
+
+    #[test]
+    fn places_outside(rt: HostRuntime) -> Result<(), NoMemory> {
+        for (text, line, col) in OUTSIDE {
+            assert!(rt; text.len() <= LineMap::MAX_BYTES);
+            let map = LineMap::new(rt.alloc(), text)?;
+            assert_eq!(rt; map.offset(Place { line, col }), None, "in {text:?}");
+        }
+        Ok(())
+    }
 }

@@ -1,5 +1,5 @@
 //! A list that contracts see as the list of its elements.
-ghost use Rattle.std.specs.Prelude.{◌≡◌, [], ◌∷◌, ◌++◌, ◌<◌, ◌↔◌, length, IsTrue, IfOk, OnOk, OnErr, OnSome, slice_get};
+ghost use Rattle.std.specs.Prelude.{◌≡◌, [], ◌∷◌, ◌++◌, ◌<◌, ◌↔◌, length, IsTrue, IfOk, OnOk, OnErr, OnSome, IsNone, slice_get, slice_set, option_to_list};
 ghost use Rattle.std.specs.Option.{option_copied};
 
 use crate::stop::NoMemory;
@@ -79,6 +79,16 @@ impl<T> List<T> {
     }
 }
 
+impl<T> List<T> {
+    /// Takes the last element away and gives it; `None` exactly where there is none.
+    pub fn pop(&mut self) -> Option<T>
+        ensures last { self.old ≡ self.new ++ option_to_list result }
+        ensures none { IsNone result ↔ (self.old ≡ []) }
+    {
+        self.items.pop()
+    }
+}
+
 impl<T: Drop> List<T> {
     /// Adds an element at the end. After `NoMemory` the list is as before.
     pub fn push(&mut self, item: T) -> Result<(), NoMemory>
@@ -89,5 +99,46 @@ impl<T: Drop> List<T> {
             Ok(()) => Ok(()),
             Err(_) => Err(NoMemory),
         }
+    }
+
+    /// Puts an element in the place of the one at `at`, counted from 0.
+    pub fn set(&mut self, at: usize, item: T)
+        requires { at < length self.old }
+        ensures { self.new ≡ slice_set self.old at item }
+    {
+        self.items[at] = item;
+    }
+}
+
+impl<T: Copy> List<T> {
+    /// Another list of these elements. `NoMemory` where they could not be stored.
+    pub fn copy(&self, alloc: Global) -> Result<List<T>, NoMemory>
+        ensures { IfOk result (λ copy. copy ≡ self.now) }
+    {
+        let items = Vec::from_slice(alloc, self.as_slice())?;
+        Ok(List { items })
+    }
+}
+
+#[cfg(test)]
+mod tests {
+    use super::*;
+    use std::test::Fail;
+
+    #[test]
+    fn lists(rt: HostRuntime) -> Result<(), Fail> {
+        let mut list = List::new(rt.alloc());
+        assert!(rt; list.is_empty());
+        list.push(3u8)?;
+        list.push(5)?;
+        assert_eq!(rt; list.len(), 2);
+        list.set(0, 4);
+        let copy = list.copy(rt.alloc())?;
+        assert_eq!(rt; list.pop(), Some(5));
+        assert_eq!(rt; list.as_slice(), [4].as_slice());
+        assert_eq!(rt; copy.get(1).copied(), Some(5));
+        assert_eq!(rt; copy.get(2).copied(), None);
+        assert_eq!(rt; List::from_vec(copy.into_vec()).len(), 2);
+        Ok(())
     }
 }

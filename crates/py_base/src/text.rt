@@ -1,8 +1,11 @@
 //! A text that contracts see as its bytes.
-ghost use Rattle.std.specs.Prelude.{◌≡◌, ◌↔◌, [], length, IsTrue, IfOk, string_bytes};
+ghost use Rattle.std.specs.Prelude.{◌≡◌, ◌↔◌, [], length, IsTrue, IfOk, Some, string_bytes, bytes_eq};
+ghost use Rattle.std.proofs.Common.{rules};
+ghost use Rattle.std.specs.Cmp.Rules.{comparing};
 
 use crate::stop::NoMemory;
 use std::alloc::Global;
+use std::fmt;
 use std::marker::Model;
 
 /// A text of its own. A contract sees it as the list of its bytes in UTF-8.
@@ -48,10 +51,15 @@ impl Text {
     pub fn from_str(alloc: Global, text: &str) -> Result<Text, NoMemory>
         ensures { IfOk result (λ copy. copy ≡ text.now) }
     {
-        match String::from_str(alloc, text) {
-            Ok(inner) => Ok(Text { inner }),
-            Err(_) => Err(NoMemory),
-        }
+        let inner = String::from_str(alloc, text)?;
+        Ok(Text { inner })
+    }
+
+    /// Another text with these bytes. `NoMemory` where they could not be stored.
+    pub fn copy(&self, alloc: Global) -> Result<Text, NoMemory>
+        ensures { IfOk result (λ copy. copy ≡ self.now) }
+    {
+        Text::from_str(alloc, self.as_str())
     }
 
     /// The text, lent.
@@ -73,5 +81,55 @@ impl Text {
         ensures { IsTrue result ↔ (self.now ≡ []) }
     {
         self.inner.is_empty()
+    }
+
+    /// Whether it has just the bytes of `text`.
+    pub fn is(&self, text: &str) -> bool
+        ensures { IsTrue result ↔ (self.now ≡ text.now) }
+    {
+        self.as_str() == text
+    }
+}
+
+impl PartialEq for Text {
+    ghost eq = { bytes_eq };
+
+    ghost laws = { Prim.search (comparing, rules) };
+
+    fn eq(&self, other: &Text) -> bool {
+        self.as_str() == other.as_str()
+    }
+}
+
+impl Eq for Text {
+    ghost laws = { Prim.search (comparing, rules) };
+}
+
+impl fmt::Display for Text {
+    ghost output = { λ text. Some text };
+
+    fn fmt<W: fmt::Write>(&self, f: &mut fmt::Formatter<W>) -> fmt::Result {
+        f.pad(self.as_str())
+    }
+}
+
+#[cfg(test)]
+mod tests {
+    use super::*;
+    use std::test::Fail;
+
+    #[test]
+    fn texts(rt: HostRuntime) -> Result<(), Fail> {
+        let alloc = rt.alloc();
+        assert!(rt; Text::new(alloc).is_empty());
+        let text = Text::from_str(alloc, "tür")?;
+        assert_eq!(rt; text.len(), 4);
+        assert!(rt; text.is("tür"));
+        assert!(rt; !text.is("tur"));
+        let copy = text.copy(alloc)?;
+        assert_eq!(rt; copy, text);
+        assert_eq!(rt; format!(in alloc; "{text:>5}")?.as_str(), "  tür");
+        assert_eq!(rt; Text::from_string(text.into_string()), copy);
+        Ok(())
     }
 }

@@ -1,0 +1,7 @@
+pub mod Stream
+pub mod Line
+pub mod Memory
+pub mod Standard
+pub mod Reading
+pub mod Buffer
+pub mod Reader

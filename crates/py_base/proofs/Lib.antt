@@ -1,0 +1,5 @@
+pub mod CountLaws
+pub mod LineLaws
+pub mod PlaceLaws
+pub mod ScanLaws
+pub mod StartLaws

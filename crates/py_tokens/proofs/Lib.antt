@@ -1,0 +1,6 @@
+pub mod Decimals
+pub mod Digits
+pub mod FirstLines
+pub mod FirstPieces
+pub mod Fronted
+pub mod Stretches

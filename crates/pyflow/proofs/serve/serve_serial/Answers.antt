@@ -1,0 +1,13 @@
+use Rattle.std.proofs.Common.{refl}
+use Rattle.pyflow.specs.declared.status.Status.TheVariants.{NoMemory}
+use Rattle.pyflow.proofs.Sessions.{never_began}
+use Rattle.pyflow.proofs.serve.serve_serial.Goals as goal
+
+pub returns-in_default-clause-reports : goal.returns-in_default-clause-reports
+returns-in_default-clause-reports g c = record {
+  status = NoMemory;
+  code_is = c.code.ensures;
+  at_end = g.S.Source.ended c.args.source.now;
+  at_end_is = λ _. refl;
+  account = never_began _ _ _ _ c.new-session.ensures.journal;
+}

@@ -1,0 +1,17 @@
+pub mod Command
+pub mod Message
+pub mod Forms
+pub mod Typing
+pub mod Listing
+pub mod Antecedents
+pub mod LineTypes
+pub mod Walks
+pub mod Spans
+pub mod LineDiags
+pub mod Reading
+pub mod Plain
+pub mod Reply
+pub mod Machine
+pub mod Journal
+pub mod Steps
+pub mod Served

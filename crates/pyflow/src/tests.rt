@@ -1,0 +1,180 @@
+//! Sessions from bytes to bytes, over devices in memory. Expected lines are written by hand from the protocol.
+
+use crate::run::run;
+use edge_io::{MemorySink, MemorySource, OpenGate};
+use std::alloc::Global;
+use std::process::Abort;
+use std::test::Fail;
+
+const FIRST: &str =
+    "{\"op\":\"open\",\"file\":\"a.py\",\"version\":1,\"text\":\"x = 1\\nreveal_type(x)\\n\"}\n{\"op\":\"end\"}\n";
+
+const FIRST_LIST: &str =
+    "{\"file\":\"a.py\",\"kind\":\"list\",\"list\":[{\"at\":[1,12,1,13],\"rule\":\"reveal-type\",\"text\":\"Type is \\\"Literal[1]\\\"\"}],\"version\":1}\n";
+
+const EMPTY: &str = "{\"op\":\"open\",\"file\":\"a.py\",\"version\":0,\"text\":\"\"}\n";
+
+const EMPTY_LIST: &str = "{\"file\":\"a.py\",\"kind\":\"list\",\"list\":[],\"version\":0}\n";
+
+// What a run came to: its status, the bytes taken and the bytes written.
+#[derive(Drop)]
+struct Outcome {
+    status: u8,
+    taken: u64,
+    written: Vec<u8>,
+}
+
+fn run_on(
+    alloc: Global,
+    words: &[&str],
+    input: &[u8],
+    piece: usize,
+    reads: &[u64],
+    writes: &[u64],
+) -> Result<Outcome, Fail> {
+    let mut list = Vec::new(alloc);
+    for word in words {
+        list.push(String::from_str(alloc, *word)?)?;
+    }
+    let mut source = MemorySource::new(
+        Vec::from_slice(alloc, input)?,
+        piece,
+        Vec::from_slice(alloc, reads)?,
+    );
+    let mut sink = MemorySink::new(alloc, Vec::from_slice(alloc, writes)?);
+    let served = run(alloc, list.as_slice(), &mut source, &mut sink, &OpenGate);
+    Ok(Outcome {
+        status: served.status,
+        taken: served.bytes_taken,
+        written: Vec::from_slice(alloc, sink.bytes())?,
+    })
+}
+
+fn expect(rt: &impl Abort, name: &str, outcome: &Outcome, status: u8, written: &[u8]) {
+    assert_eq!(rt; outcome.status, status, "{name}");
+    assert_eq!(rt; outcome.written.as_slice(), written, "{name}");
+}
+
+#[test]
+fn words(rt: HostRuntime) -> Result<(), Fail> {
+    let rows: [(&[&str], u8); 8] = [
+        (&[], 2),
+        (&["serve"], 0),
+        (&["serve", "--workers", "0"], 0),
+        (&["serve", "--workers", "1"], 2),
+        (&["serve", "--workers=0"], 2),
+        (&["serve", "--workers"], 2),
+        (&["check"], 2),
+        (&["--help"], 2),
+    ];
+    for (words, status) in rows {
+        let outcome = run_on(rt.alloc(), words, FIRST.as_bytes(), 4096, &[], &[])?;
+        let written = if status == 0 { FIRST_LIST } else { "" };
+        expect(&rt, "words", &outcome, status, written.as_bytes());
+        assert_eq!(rt;
+            outcome.taken,
+            if status == 0 { FIRST.len() as u64 } else { 0 }
+        );
+    }
+    Ok(())
+}
+
+#[test]
+fn sessions(rt: HostRuntime) -> Result<(), Fail> {
+    let bad_json = "{\"kind\":\"refused\",\"line\":0,\"name\":\"BadJson\",\"number\":1}\n";
+    let bad_op =
+        "{\"field\":\"op\",\"kind\":\"refused\",\"line\":0,\"name\":\"BadField\",\"number\":2}\n";
+    let bad_file =
+        "{\"field\":\"file\",\"kind\":\"refused\",\"line\":0,\"name\":\"BadField\",\"number\":2}\n";
+    let bad_version =
+        "{\"field\":\"version\",\"kind\":\"refused\",\"line\":0,\"name\":\"BadField\",\"number\":2}\n";
+    let bad_text =
+        "{\"field\":\"text\",\"kind\":\"refused\",\"line\":0,\"name\":\"BadField\",\"number\":2}\n";
+    let unknown = "{\"kind\":\"refused\",\"line\":0,\"name\":\"UnknownOp\",\"number\":3}\n";
+    let rows = [
+        ("nonsense", bad_json),
+        ("", bad_json),
+        ("[1]", bad_op),
+        ("{\"op\":7}", bad_op),
+        ("{\"op\":\"rename\"}", unknown),
+        ("{\"op\":\"open\"}", bad_file),
+        (
+            "{\"op\":\"open\",\"file\":\"\",\"version\":1,\"text\":\"\"}",
+            bad_file,
+        ),
+        (
+            "{\"op\":\"open\",\"file\":\"a.py\",\"text\":\"\"}",
+            bad_version,
+        ),
+        (
+            "{\"op\":\"open\",\"file\":\"a.py\",\"version\":-1,\"text\":\"\"}",
+            bad_version,
+        ),
+        (
+            "{\"op\":\"open\",\"file\":\"a.py\",\"version\":1.5,\"text\":\"\"}",
+            bad_version,
+        ),
+        (
+            "{\"op\":\"open\",\"file\":\"a.py\",\"version\":4294967296,\"text\":\"\"}",
+            bad_version,
+        ),
+        (
+            "{\"op\":\"open\",\"file\":\"a.py\",\"version\":\"1\",\"text\":\"\"}",
+            bad_version,
+        ),
+        (
+            "{\"op\":\"open\",\"file\":\"a.py\",\"version\":1}",
+            bad_text,
+        ),
+    ];
+    for (line, refusal) in rows {
+        // The refused line stands before an `open`, which is answered as if it weren't there.
+        let input = format!(in rt.alloc(); "{line}\n{EMPTY}")?;
+        let written = format!(in rt.alloc(); "{refusal}{EMPTY_LIST}")?;
+        let outcome = run_on(rt.alloc(), &["serve"], input.as_bytes(), 4096, &[], &[])?;
+        expect(&rt, line, &outcome, 0, written.as_bytes());
+    }
+    Ok(())
+}
+
+#[test]
+fn ends(rt: HostRuntime) -> Result<(), Fail> {
+    let second = "{\"kind\":\"refused\",\"line\":1,\"name\":\"UnknownOp\",\"number\":3}\n";
+    let twice = format!(in rt.alloc(); "{EMPTY}{EMPTY}")?;
+    let twice_written = format!(in rt.alloc(); "{EMPTY_LIST}{second}")?;
+    let behind = format!(in rt.alloc(); "{FIRST}nonsense\n")?;
+    let rows = [
+        ("no input", "", ""),
+        ("no last LF", EMPTY.trim_end(), EMPTY_LIST),
+        ("a second open", twice.as_str(), twice_written.as_str()),
+        ("bytes behind end", behind.as_str(), FIRST_LIST),
+    ];
+    for (name, input, written) in rows {
+        for piece in [1, 3, 4096] {
+            let outcome = run_on(rt.alloc(), &["serve"], input.as_bytes(), piece, &[], &[])?;
+            expect(&rt, name, &outcome, 0, written.as_bytes());
+        }
+    }
+    Ok(())
+}
+
+#[test]
+fn devices_that_fail(rt: HostRuntime) -> Result<(), Fail> {
+    let outcome = run_on(rt.alloc(), &["serve"], FIRST.as_bytes(), 10, &[1], &[])?;
+    expect(&rt, "the second read of 10 bytes", &outcome, 3, b"");
+    assert_eq!(rt; outcome.taken, 10);
+    let input = format!(in rt.alloc(); "nonsense\n{FIRST}")?;
+    let refusal = "{\"kind\":\"refused\",\"line\":0,\"name\":\"BadJson\",\"number\":1}\n";
+    let whole = format!(in rt.alloc(); "{refusal}{FIRST_LIST}")?;
+    let rows = [
+        ("no write", 0, ""),
+        ("one write", 1, refusal),
+        ("two writes", 2, whole.as_str()),
+    ];
+    for (name, call, written) in rows {
+        let status = if call < 2 { 4 } else { 0 };
+        let outcome = run_on(rt.alloc(), &["serve"], input.as_bytes(), 4096, &[], &[call])?;
+        expect(&rt, name, &outcome, status, written.as_bytes());
+    }
+    Ok(())
+}
