@@ -1,7 +1,9 @@
 //! Sessions from bytes to bytes, over devices in memory. Expected lines are written by hand from the protocol.
 
+ghost use Rattle.std.specs.Prelude.{None};
+
 use crate::run::run;
-use edge_io::{MemorySink, MemorySource, OpenGate};
+use edge_io::{Failed, MemorySink, MemorySource, OpenGate, Sink};
 use std::alloc::Global;
 use std::process::Abort;
 use std::test::Fail;
@@ -79,61 +81,80 @@ fn words(rt: HostRuntime) -> Result<(), Fail> {
     Ok(())
 }
 
+const BAD_JSON: &str = "{\"kind\":\"refused\",\"line\":0,\"name\":\"BadJson\",\"number\":1}\n";
+
+const BAD_OP: &str =
+    "{\"field\":\"op\",\"kind\":\"refused\",\"line\":0,\"name\":\"BadField\",\"number\":2}\n";
+
+const BAD_FILE: &str =
+    "{\"field\":\"file\",\"kind\":\"refused\",\"line\":0,\"name\":\"BadField\",\"number\":2}\n";
+
+const BAD_VERSION: &str =
+    "{\"field\":\"version\",\"kind\":\"refused\",\"line\":0,\"name\":\"BadField\",\"number\":2}\n";
+
+const BAD_TEXT: &str =
+    "{\"field\":\"text\",\"kind\":\"refused\",\"line\":0,\"name\":\"BadField\",\"number\":2}\n";
+
+const UNKNOWN_OP: &str = "{\"kind\":\"refused\",\"line\":0,\"name\":\"UnknownOp\",\"number\":3}\n";
+
+// Lines that say nothing to the session, with their refusals.
+const REFUSALS: [(&str, &str); 13] = [
+    ("nonsense", BAD_JSON),
+    ("", BAD_JSON),
+    ("[1]", BAD_OP),
+    ("{\"op\":7}", BAD_OP),
+    ("{\"op\":\"rename\"}", UNKNOWN_OP),
+    ("{\"op\":\"open\"}", BAD_FILE),
+    (
+        "{\"op\":\"open\",\"file\":\"\",\"version\":1,\"text\":\"\"}",
+        BAD_FILE,
+    ),
+    (
+        "{\"op\":\"open\",\"file\":\"a.py\",\"text\":\"\"}",
+        BAD_VERSION,
+    ),
+    (
+        "{\"op\":\"open\",\"file\":\"a.py\",\"version\":-1,\"text\":\"\"}",
+        BAD_VERSION,
+    ),
+    (
+        "{\"op\":\"open\",\"file\":\"a.py\",\"version\":1.5,\"text\":\"\"}",
+        BAD_VERSION,
+    ),
+    (
+        "{\"op\":\"open\",\"file\":\"a.py\",\"version\":4294967296,\"text\":\"\"}",
+        BAD_VERSION,
+    ),
+    (
+        "{\"op\":\"open\",\"file\":\"a.py\",\"version\":\"1\",\"text\":\"\"}",
+        BAD_VERSION,
+    ),
+    (
+        "{\"op\":\"open\",\"file\":\"a.py\",\"version\":1}",
+        BAD_TEXT,
+    ),
+];
+
 #[test]
-fn sessions(rt: HostRuntime) -> Result<(), Fail> {
-    let bad_json = "{\"kind\":\"refused\",\"line\":0,\"name\":\"BadJson\",\"number\":1}\n";
-    let bad_op =
-        "{\"field\":\"op\",\"kind\":\"refused\",\"line\":0,\"name\":\"BadField\",\"number\":2}\n";
-    let bad_file =
-        "{\"field\":\"file\",\"kind\":\"refused\",\"line\":0,\"name\":\"BadField\",\"number\":2}\n";
-    let bad_version =
-        "{\"field\":\"version\",\"kind\":\"refused\",\"line\":0,\"name\":\"BadField\",\"number\":2}\n";
-    let bad_text =
-        "{\"field\":\"text\",\"kind\":\"refused\",\"line\":0,\"name\":\"BadField\",\"number\":2}\n";
-    let unknown = "{\"kind\":\"refused\",\"line\":0,\"name\":\"UnknownOp\",\"number\":3}\n";
-    let rows = [
-        ("nonsense", bad_json),
-        ("", bad_json),
-        ("[1]", bad_op),
-        ("{\"op\":7}", bad_op),
-        ("{\"op\":\"rename\"}", unknown),
-        ("{\"op\":\"open\"}", bad_file),
-        (
-            "{\"op\":\"open\",\"file\":\"\",\"version\":1,\"text\":\"\"}",
-            bad_file,
-        ),
-        (
-            "{\"op\":\"open\",\"file\":\"a.py\",\"text\":\"\"}",
-            bad_version,
-        ),
-        (
-            "{\"op\":\"open\",\"file\":\"a.py\",\"version\":-1,\"text\":\"\"}",
-            bad_version,
-        ),
-        (
-            "{\"op\":\"open\",\"file\":\"a.py\",\"version\":1.5,\"text\":\"\"}",
-            bad_version,
-        ),
-        (
-            "{\"op\":\"open\",\"file\":\"a.py\",\"version\":4294967296,\"text\":\"\"}",
-            bad_version,
-        ),
-        (
-            "{\"op\":\"open\",\"file\":\"a.py\",\"version\":\"1\",\"text\":\"\"}",
-            bad_version,
-        ),
-        (
-            "{\"op\":\"open\",\"file\":\"a.py\",\"version\":1}",
-            bad_text,
-        ),
-    ];
-    for (line, refusal) in rows {
+fn refusals(rt: HostRuntime) -> Result<(), Fail> {
+    for (line, refusal) in REFUSALS {
         // The refused line stands before an `open`, which is answered as if it weren't there.
         let input = format!(in rt.alloc(); "{line}\n{EMPTY}")?;
         let written = format!(in rt.alloc(); "{refusal}{EMPTY_LIST}")?;
         let outcome = run_on(rt.alloc(), &["serve"], input.as_bytes(), 4096, &[], &[])?;
         expect(&rt, line, &outcome, 0, written.as_bytes());
     }
+    Ok(())
+}
+
+#[test]
+fn a_line_above_the_limit(rt: HostRuntime) -> Result<(), Fail> {
+    let mut input = vec![in rt.alloc(); b'#'; 4_194_305]?;
+    input.push(b'\n')?;
+    input.extend_from_slice(EMPTY.as_bytes())?;
+    let written = format!(in rt.alloc(); "{BAD_JSON}{EMPTY_LIST}")?;
+    let outcome = run_on(rt.alloc(), &["serve"], input.as_slice(), 4096, &[], &[])?;
+    expect(&rt, "4,194,305 bytes", &outcome, 0, written.as_bytes());
     Ok(())
 }
 
@@ -159,7 +180,68 @@ fn ends(rt: HostRuntime) -> Result<(), Fail> {
 }
 
 #[test]
-fn devices_that_fail(rt: HostRuntime) -> Result<(), Fail> {
+fn reads_that_fail(rt: HostRuntime) -> Result<(), Fail> {
+    // The call of each number fails in turn, until a run meets no failure.
+    for call in 0..20u64 {
+        let outcome = run_on(rt.alloc(), &["serve"], FIRST.as_bytes(), 10, &[call], &[])?;
+        if outcome.status == 0 {
+            expect(&rt, "no failure", &outcome, 0, FIRST_LIST.as_bytes());
+            assert!(rt; call >= 9);
+            return Ok(());
+        }
+        assert_eq!(rt; outcome.status, 3);
+        assert_eq!(rt; outcome.taken, 10 * call);
+        // The open line has 73 bytes, so it ends within the eighth piece.
+        let written = if call < 8 { "" } else { FIRST_LIST };
+        expect(&rt, "a failed read", &outcome, 3, written.as_bytes());
+    }
+    assert!(rt; false, "each run failed");
+    Ok(())
+}
+
+// A sink that takes at most five bytes of a piece, and tells nothing.
+#[derive(Drop)]
+struct SlowSink {
+    bytes: Vec<u8>,
+    faults: u64,
+}
+
+impl Sink for SlowSink {
+    ghost written = { λ _. None };
+
+    ghost faults = { λ s. s.faults };
+
+    fn put(&mut self, bytes: &[u8]) -> Result<usize, Failed> {
+        let count = bytes.len().min(5);
+        if self.bytes.extend_from_slice(&bytes[..count]).is_err() {
+            self.faults = self.faults.saturating_add(1);
+            return Err(Failed);
+        }
+        Ok(count)
+    }
+}
+
+#[test]
+fn a_slow_sink(rt: HostRuntime) -> Result<(), Fail> {
+    let alloc = rt.alloc();
+    let words = vec![in alloc; String::from_str(alloc, "serve")?]?;
+    let mut source = MemorySource::new(
+        Vec::from_slice(alloc, FIRST.as_bytes())?,
+        7,
+        Vec::new(alloc),
+    );
+    let mut sink = SlowSink {
+        bytes: Vec::new(alloc),
+        faults: 0,
+    };
+    let served = run(alloc, words.as_slice(), &mut source, &mut sink, &OpenGate);
+    assert_eq!(rt; served.status, 0);
+    assert_eq!(rt; sink.bytes.as_slice(), FIRST_LIST.as_bytes());
+    Ok(())
+}
+
+#[test]
+fn writes_that_fail(rt: HostRuntime) -> Result<(), Fail> {
     let outcome = run_on(rt.alloc(), &["serve"], FIRST.as_bytes(), 10, &[1], &[])?;
     expect(&rt, "the second read of 10 bytes", &outcome, 3, b"");
     assert_eq!(rt; outcome.taken, 10);
