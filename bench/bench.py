@@ -11,7 +11,7 @@ from pathlib import Path
 
 TOP = Path(__file__).resolve().parent.parent
 PROGRAM = sys.argv[1] if len(sys.argv) > 1 else str(TOP / "crates/pyflow/out/pyflow")
-REPEATS = 5
+REPEATS = 9
 
 
 def session(text):
@@ -65,7 +65,7 @@ def refusals(count):
 
 def main():
     ratios = [
-        pair("20,000 and 40,000 lines v{i} = {i}", literals(20000), literals(40000)),
+        pair("18,000 and 36,000 lines v{i} = {i}", literals(18000), literals(36000)),
         pair("10,000 and 20,000 lines a{i} = a{i-1}, reveal", chain(10000), chain(20000)),
         pair("2,000 and 4,000 session lines", refusals(2000), refusals(4000)),
         pair("one line, 1 and 2 MB of text", session("#" * 1000000), session("#" * 2000000)),

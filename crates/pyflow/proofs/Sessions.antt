@@ -15,12 +15,13 @@ use Rattle.pyflow.specs.declared.message.Msg.TheVariants.{Open, End}
 use Rattle.pyflow.specs.declared.message.LineRefusal.{LineRefusal}
 use Rattle.pyflow.specs.declared.entry.Entry.{Entry}
 use Rattle.pyflow.specs.declared.status.Status.{Status}
-use Rattle.pyflow.specs.declared.status.Status.TheVariants.{Done, Usage, ReadFault, WriteFault, NoMemory, TooLong}
+use Rattle.pyflow.specs.declared.status.Status.TheVariants.{Done, ReadFault, WriteFault, NoMemory, TooLong}
 use Rattle.pyflow.specs.Message.{read_message}
 use Rattle.pyflow.specs.Machine.{Doc, beginning, has_no_doc, line_at, run}
 use Rattle.pyflow.specs.Journal.{is_end_line, until_end, session_lines, has_end, IsSettled, serial_from, serial}
 use Rattle.pyflow.specs.Steps.{Step, steps_of, opens, entries_of, texts_of, Partly}
-use Rattle.pyflow.specs.Served.{IsWhole, IsDone, IsBroken, IsTooLong, Outcome, Account}
+use Rattle.pyflow.specs.Served.{IsPrefix, IsWhole, IsStopped, IsDone, IsBroken, IsTooLong, Outcome, Account}
+use Rattle.pyflow.proofs.Partials.{entries_of-append}
 use Rattle.pyflow.proofs.Runs.{turn, at_rest, docs_behind, run_goes_on, steps_run, first_run, serial_steps}
 use Rattle.pyflow.proofs.Ends.{until_end-going, until_end-at, until_end-first, has_end-more}
 
@@ -184,6 +185,13 @@ so_far_whole k a j o l m w v s =
       text = sym (ap (λ o. option_map_or (λ t. t.text) o []) ran);
     }
 
+-- the journal so far is the serial one
+so_far_serial : (k : ℕ) (a : Reading) (j : List Entry) (o : Bool) (l m w v : Option (List ℕ)) → (s : SoFar k a j o l m w v) → j ≡ serial s.lines
+so_far_serial k a j o l m w v s = sym (ap serial (sym (append-nil s.lines)) ∙ (s.serial_is [] ∙ append-nil j))
+
+so_far_stopped : (k : ℕ) (a : Reading) (j : List Entry) (o : Bool) (l m w v : Option (List ℕ)) → (s : SoFar k a j o l m w v) → IsStopped s.lines j s.text
+so_far_stopped k a j o l m w v s = record { whole = so_far_whole k a j o l m w v s; serial_is = so_far_serial k a j o l m w v s; going = s.no_end }
+
 -- where bytes of no whole line stand behind it
 stops_before : (k : ℕ) (a : Reading) (j : List Entry) (o : Bool) (l m w v : Option (List ℕ)) (rest : List ℕ) → a.at_end ≡ false → IsLine rest → (s : SoFar k a j o l m w v) → session_lines false (s.handed.bytes ++ rest) ≡ s.lines
 stops_before k a j o l m w v rest going plain s =
@@ -201,7 +209,7 @@ stops_read_fault k a b j o l m r w v going s broken = record {
   put = s.text;
   written_is = s.written_is;
   outcome = subst (λ e. Outcome ReadFault e (s.handed.bytes ++ broken.bytes) j s.text) (sym broken.at_end)
-      (subst (λ ls. IsWhole ls j s.text) (sym (stops_before k a j o l m w v broken.bytes going broken.plain s)) (so_far_whole k a j o l m w v s));
+      (subst (λ ls. IsStopped ls j s.text) (sym (stops_before k a j o l m w v broken.bytes going broken.plain s)) (so_far_stopped k a j o l m w v s), refl);
 }
 
 -- too many bytes came
@@ -209,7 +217,7 @@ pub stops_too_long : (k : ℕ) (a b : Reading) (j : List Entry) (o : Bool) (l m 
 stops_too_long k a b j o l m r w v going s broken full =
     let is = stops_before k a j o l m w v broken.bytes going broken.plain s in
     let count : length (s.handed.bytes ++ broken.bytes) ≡ b.taken = (let e = s.handed.counted in let f = broken.broken.counted in omega (arith, length-append s.handed.bytes broken.bytes)) in
-    let too_long : IsTooLong false (s.handed.bytes ++ broken.bytes) s.lines = record { full = count ∙ (full ∙ (broken.broken.most ∙ s.handed.most)); going = s.no_end; open_end = refl } in
+    let too_long : IsTooLong false (s.handed.bytes ++ broken.bytes) = record { full = count ∙ (full ∙ (broken.broken.most ∙ s.handed.most)); open_end = refl } in
     record {
       bytes = s.handed.bytes ++ broken.bytes;
       taken_is = stream_to s.handed.bytes a.waiting broken.bytes l m r s.handed.stream broken.broken.stream;
@@ -217,7 +225,7 @@ stops_too_long k a b j o l m r w v going s broken full =
       put = s.text;
       written_is = s.written_is;
       outcome = subst (λ e. Outcome TooLong e (s.handed.bytes ++ broken.bytes) j s.text) (sym broken.at_end)
-          (subst (λ ls. IsWhole ls j s.text × IsTooLong false (s.handed.bytes ++ broken.bytes) ls) (sym is) (so_far_whole k a j o l m w v s, too_long));
+          (subst (λ ls. IsStopped ls j s.text) (sym is) (so_far_stopped k a j o l m w v s), too_long);
     }
 
 -- the beginning of a journal whose lines go on
@@ -227,6 +235,8 @@ broken_here k a j o l m w v more s = record {
   left = more;
   lines_are = refl;
   legal = (so_far_whole k a j o l m w v s).legal;
+  unentered = [];
+  in_turn = sym (so_far_serial k a j o l m w v s) ∙ sym (append-nil j);
   text = ([], sym (so_far_whole k a j o l m w v s).text ∙ sym (append-nil s.text));
 }
 
@@ -263,7 +273,7 @@ stops_at_end k a b j o l m r w v s g =
     let is : session_lines true (s.handed.bytes ++ []) ≡ s.lines =
     ap until_end (s.handed.cut true [] (nothing_follows a.at_end) ∙ append-nil s.lines) ∙ (ap until_end (sym (append-nil s.lines)) ∙ (s.going [] ∙ append-nil s.lines)) in
     let ran : run s.lines j ≡ Some (turn (at_rest k false s.docs) s.text) = subst (λ ls. run ls j ≡ Some (turn (at_rest k false s.docs) s.text)) (append-nil s.lines) (s.ran []) in
-    let serials : j ≡ serial s.lines = sym (ap serial (sym (append-nil s.lines)) ∙ (s.serial_is [] ∙ append-nil j)) in
+    let serials : j ≡ serial s.lines = so_far_serial k a j o l m w v s in
     record {
       bytes = s.handed.bytes ++ [];
       taken_is = stream_to s.handed.bytes a.waiting [] l m r s.handed.stream (g.given.stream ∙ rw g.nothing refl);
@@ -329,11 +339,18 @@ breaks k line a j o l m w v more s (x ∷ done) undone put unput steps text =
     let lines = s.lines ++ line ∷ [] in
     let first = first_run lines k s.docs (read_message line) x done undone (below s.lines [] line k s.number) (ap read_message (at_number s.lines [] line k s.number)) (ap (λ b. steps_of k b (read_message line)) (sym s.opened_is) ∙ steps) in
     let ran : run lines (j ++ entries_of (x ∷ done)) ≡ Some (turn first.0 (s.text ++ texts_of (x ∷ done))) = run_goes_on lines beginning (at_rest k false s.docs) first.0 j (entries_of (x ∷ done)) s.text (texts_of (x ∷ done)) (s.ran (line ∷ [])) first.1 in
+    let all : steps_of k (not (has_no_doc s.docs)) (read_message line) ≡ (x ∷ done) ++ undone = ap (λ b. steps_of k b (read_message line)) (sym s.opened_is) ∙ steps in
+    let entered : serial lines ≡ (j ++ entries_of (x ∷ done)) ++ entries_of undone =
+    serial_more k s.lines [] line s.docs j s.serial_is
+    ∙ (append-nil (j ++ entries_of (steps_of k (not (has_no_doc s.docs)) (read_message line))) ∙ (ap (λ xs. j ++ entries_of xs) all
+    ∙ (ap (λ es. j ++ es) (entries_of-append (x ∷ done) undone) ∙ sym (append_assoc j (entries_of (x ∷ done)) (entries_of undone))))) in
     record {
       taken = lines;
       left = more;
       lines_are = sym (one_more s.lines more line);
       legal = subst (λ o. IsSomeAnd o (λ t. t.state.taken ≡ length lines)) (sym ran) (first.2 ∙ (let n = s.number in sym (length-append s.lines (line ∷ []) ∙ omega arith)));
+      unentered = entries_of undone;
+      in_turn = entered;
       text = (unput, ap (λ o. option_map_or (λ t. t.text) o []) ran ∙ (ap (λ xs. s.text ++ xs) text ∙ sym (append_assoc s.text put unput)));
     }
 
@@ -387,22 +404,7 @@ never_began e left w journal none = record {
   counted = refl;
   put = [];
   written_is = sym (behind-nil w);
-  outcome = subst (λ es. Outcome NoMemory e [] es []) (sym none) (record { taken = []; left = []; lines_are = refl; legal = refl; text = ([], refl) });
-}
-  where
-    same : (left : Option (List ℕ)) → left ≡ before [] left
-    same None = refl
-    same (Some rest) = refl
-
--- no command was given
-pub nothing_done : (e : Bool) (left w : Option (List ℕ)) (journal : List Entry) → journal ≡ [] → Account Usage journal 0 e left left w w
-nothing_done e left w journal none = record {
-  bytes = [];
-  taken_is = same left;
-  counted = refl;
-  put = [];
-  written_is = sym (behind-nil w);
-  outcome = (refl, none, refl);
+  outcome = subst (λ es. Outcome NoMemory e [] es []) (sym none) (record { taken = []; left = []; lines_are = refl; legal = refl; unentered = []; in_turn = refl; text = ([], refl) });
 }
   where
     same : (left : Option (List ℕ)) → left ≡ before [] left

@@ -23,6 +23,12 @@ pub record IsWhole (lines : List (List ℕ)) (journal : List Entry) (put : List 
   pub legal : Legal lines journal
   pub text : put ≡ text_of lines journal
 
+-- each line is in the journal with all that answers it, and none of them ends the session
+pub record IsStopped (lines : List (List ℕ)) (journal : List Entry) (put : List ℕ) : Type 0 where
+  pub whole : IsWhole lines journal put
+  pub serial_is : journal ≡ serial lines
+  pub going : has_end lines ≡ false
+
 -- all that was opened is answered, line by line, and the lines end as a session does
 pub record IsDone (at_end : Bool) (lines : List (List ℕ)) (journal : List Entry) (put : List ℕ) : Type 0 where
   pub whole : IsWhole lines journal put
@@ -30,28 +36,29 @@ pub record IsDone (at_end : Bool) (lines : List (List ℕ)) (journal : List Entr
   pub serial_is : journal ≡ serial lines
   pub ends : (has_end lines ≡ true) ⊎ (at_end ≡ true)
 
--- the first lines are in the journal, and what was put is the beginning of its text
+-- the first lines are in the journal, which is a beginning of their serial one, and what was put is a beginning of its text
 pub record IsBroken (lines : List (List ℕ)) (journal : List Entry) (put : List ℕ) : Type 0 where
   pub taken : List (List ℕ)
   pub left : List (List ℕ)
   pub lines_are : lines ≡ taken ++ left
   pub legal : Legal taken journal
+  pub unentered : List Entry
+  pub in_turn : serial taken ≡ journal ++ unentered
   pub text : IsPrefix put (text_of taken journal)
 
 -- as many bytes as may be were taken, and neither the input nor a line that ends the session ended them
-pub record IsTooLong (at_end : Bool) (bytes : List ℕ) (lines : List (List ℕ)) : Type 0 where
+pub record IsTooLong (at_end : Bool) (bytes : List ℕ) : Type 0 where
   pub full : length bytes ≡ 2 ^ 40
-  pub going : has_end lines ≡ false
   pub open_end : at_end ≡ false
 
 -- what holds at each status, of the bytes taken and the bytes put
 abbrev pub Outcome : Status → Bool → List ℕ → List Entry → List ℕ → Type 0
 Outcome Done at_end bytes journal put = IsDone at_end (session_lines at_end bytes) journal put
 Outcome Usage at_end bytes journal put = (bytes ≡ []) × (journal ≡ []) × (put ≡ [])
-Outcome ReadFault at_end bytes journal put = IsWhole (session_lines at_end bytes) journal put
+Outcome ReadFault at_end bytes journal put = IsStopped (session_lines at_end bytes) journal put × (at_end ≡ false)
 Outcome WriteFault at_end bytes journal put = IsBroken (session_lines at_end bytes) journal put
 Outcome NoMemory at_end bytes journal put = IsBroken (session_lines at_end bytes) journal put
-Outcome TooLong at_end bytes journal put = IsWhole (session_lines at_end bytes) journal put × IsTooLong at_end bytes (session_lines at_end bytes)
+Outcome TooLong at_end bytes journal put = IsStopped (session_lines at_end bytes) journal put × IsTooLong at_end bytes
 
 -- What a session has done when it stops: of what was left it took these bytes, behind what was written it put
 -- others, and of these the outcome of its status holds. `at_end` says whether the input ended behind the bytes.

@@ -11,6 +11,7 @@ use py_base::{NoMemory, Text};
 use serde_json::Value;
 use std::alloc::Global;
 use std::str;
+use thiserror::Error;
 
 /// The longest name of a file, in bytes.
 pub const FILE_LIMIT: usize = 4_096;
@@ -28,13 +29,16 @@ pub enum Msg {
 }
 
 /// Why a line asks for nothing.
-#[derive(Debug, Drop)]
+#[derive(Debug, Drop, Error)]
 pub enum LineRefusal {
     /// The line is no JSON, or longer than a line may be.
+    #[error("the line is no JSON")]
     BadJson,
     /// The first field that is missing or of another form.
+    #[error("the field {0} is missing or of another form")]
     BadField(Text),
     /// The operation is none of the session's.
+    #[error("the operation is not known")]
     UnknownOp,
 }
 

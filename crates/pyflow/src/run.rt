@@ -23,6 +23,7 @@ pub fn run<S: Source + Send, K: Sink, G: Gate + Sync>(
     _gate: &G,
 ) -> Served
     ensures usage { (result.status ≡ 2) ↔ (command_of (map string_bytes words.now) ≡ None) }
+    ensures untouched { result.status ≡ 2 → (source.new ≡ source.old) × (sink.new ≡ sink.old) }
     ensures reports { Reports result.status result.journal result.bytes_taken (S.ended source.old) (S.ended source.new) (S.left source.old) (S.left source.new) (K.written sink.old) (K.written sink.new) }
 
     // A fault is answered where a device failed, and nowhere else.

@@ -11,11 +11,11 @@ abbrev pub member_text : Atom → List ℕ
 member_text (Lit (Int value)) = codes "Literal[" ++ (signed_decimal value ++ codes "]")
 member_text Unknown = codes "Unknown"
 
--- the members behind a text
-abbrev pub joined_before : List ℕ → List Atom → List ℕ
-joined_before text [] = text
-joined_before text (atom ∷ atoms) = joined_before (text ++ (codes " | " ++ member_text atom)) atoms
+-- further members, each behind a bar
+abbrev pub further : List Atom → List ℕ
+further [] = []
+further (atom ∷ atoms) = codes " | " ++ (member_text atom ++ further atoms)
 
 unfoldable pub text_of : List Atom → List ℕ
 text_of [] = codes "Never"
-text_of (atom ∷ atoms) = joined_before (member_text atom) atoms
+text_of (atom ∷ atoms) = member_text atom ++ further atoms

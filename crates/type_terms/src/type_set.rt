@@ -1,6 +1,6 @@
 //! Types.
 ghost use Rattle.std.specs.Prelude.{◌≡◌, ◌∷◌, ◌++◌, [], IfOk, OnOk, string_bytes};
-ghost use Rattle.type_terms.specs.TypeText.{text_of, member_text, joined_before};
+ghost use Rattle.type_terms.specs.TypeText.{text_of, member_text, further};
 
 use crate::atom::{Atom, Literal};
 use py_base::{List, NoMemory, Text};
@@ -64,7 +64,7 @@ pub fn type_text(alloc: Global, ty: &Type) -> Result<Text, NoMemory>
 }
 
 fn joined(alloc: Global, first: Atom, others: &[Atom]) -> Result<String, AllocError>
-    ensures { IfOk result (λ text. string_bytes text ≡ joined_before (member_text first) others.now) }
+    ensures { IfOk result (λ text. string_bytes text ≡ member_text first ++ further others.now) }
 {
     let mut text = member_text(alloc, first)?;
     for atom in others {
