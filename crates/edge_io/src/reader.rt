@@ -139,7 +139,7 @@ impl LineReader {
         ensures ready { IsReady self.old → source.new ≡ source.old }
 
         // The end of the input.
-        ensures ends { S.ended source.old ≡ self.old.at_end → S.ended source.new ≡ self.new.at_end }
+        ensures ends { ((source.new ≡ source.old) × (self.new.at_end ≡ self.old.at_end)) ⊎ (S.ended source.new ≡ self.new.at_end) }
         ensures used_up { (self.old.at_end ≡ true → IsUsedUp (S.left source.old)) → self.new.at_end ≡ true → IsUsedUp (S.left source.new) }
 
         // Faults of the source.
@@ -169,7 +169,7 @@ impl LineReader {
         ensures fault { self.new.fault ≡ self.old.fault }
         ensures within { self.new.taken ≤ self.new.most }
         ensures ready { IsReady self.old → source.new ≡ source.old }
-        ensures ends { S.ended source.old ≡ self.old.at_end → S.ended source.new ≡ self.new.at_end }
+        ensures ends { ((source.new ≡ source.old) × (self.new.at_end ≡ self.old.at_end)) ⊎ (S.ended source.new ≡ self.new.at_end) }
         ensures used_up { (self.old.at_end ≡ true → IsUsedUp (S.left source.old)) → self.new.at_end ≡ true → IsUsedUp (S.left source.new) }
         ensures later { S.faults source.old ≤ S.faults source.new }
         ensures cause { result ≡ Err LineFault.ReadFault → Rose (S.faults source.old) (S.faults source.new) }
@@ -220,7 +220,7 @@ impl LineReader {
         ensures fault { self.new.fault ≡ self.old.fault }
         ensures within { self.new.taken ≤ self.new.most }
         ensures ready { self.old.at_end ≡ true → source.new ≡ source.old }
-        ensures ends { S.ended source.old ≡ self.old.at_end → S.ended source.new ≡ self.new.at_end }
+        ensures ends { ((source.new ≡ source.old) × (self.new.at_end ≡ self.old.at_end)) ⊎ (S.ended source.new ≡ self.new.at_end) }
         ensures used_up { (self.old.at_end ≡ true → IsUsedUp (S.left source.old)) → self.new.at_end ≡ true → IsUsedUp (S.left source.new) }
         ensures later { S.faults source.old ≤ S.faults source.new }
         ensures cause { result ≡ Err LineFault.ReadFault → Rose (S.faults source.old) (S.faults source.new) }

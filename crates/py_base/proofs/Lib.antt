@@ -1,3 +1,6 @@
+mod DistinctNames
+mod LinkLemmas
+mod NameLemmas
 pub mod CountLaws
 pub mod LineLaws
 pub mod PlaceLaws

@@ -3,3 +3,5 @@ pub mod LineStarts
 pub mod Lines
 pub mod Places
 pub mod RuleName
+pub mod Tree
+pub mod TreeLaws

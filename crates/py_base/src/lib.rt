@@ -10,21 +10,26 @@
 pub mod diag;
 pub mod ids;
 pub mod key;
+pub mod language_names;
 pub mod laws;
 pub mod line_map;
 pub mod line_scan;
 pub mod list;
+pub mod node;
 pub mod span;
 pub mod steps;
 pub mod stop;
 pub mod text;
+pub mod tree;
 
 pub use diag::{Diag, Rule};
 pub use ids::{ClassId, FuncId, GraphId, NameId, NodeId, PointId, RefId, SiteId, SymId};
 pub use key::Key;
 pub use line_map::LineMap;
 pub use list::List;
+pub use node::{Node, NodeKind, Op, Word};
 pub use span::{Place, Span};
 pub use steps::Steps;
 pub use stop::{NoMemory, Stop};
 pub use text::Text;
+pub use tree::Tree;

@@ -42,7 +42,9 @@ impl LineMap {
     /// Python 3.12 language reference, 2.1.2, "Physical lines".
     pub fn new(alloc: Global, text: &str) -> Result<LineMap, NoMemory>
         requires { length text.now ≤ LineMap.MAX_BYTES }
-        ensures { IfOk result (λ lines. lines ≡ map length (physical_lines (chars text.now))) }
+        ensures lines { IfOk result (λ lines. lines ≡ map length (physical_lines (chars text.now))) }
+        ensures some { IfOk result (λ lines. 0 < length lines) }
+        ensures all { IfOk result (λ lines. sum lines ≡ length (chars text.now)) }
     {
         let mut starts = Vec::new(alloc);
         starts.push(0)?;
@@ -132,7 +134,6 @@ pub(crate) fn is_line_end(c: char, rest: &str) -> bool
 #[cfg(test)]
 mod tests {
     use super::*;
-    use crate::laws::lines_have_all;
     use crate::line_scan::place_by_counting;
     use std::process::Abort;
 
@@ -177,7 +178,6 @@ mod tests {
         assert!(rt; text.len() <= LineMap::MAX_BYTES);
         let map = LineMap::new(alloc, text)?;
         assert!(rt; offset <= map.char_count());
-        lines_have_all();
         assert_eq!(rt; map.place(offset), place, "in {text:?}");
         assert_eq!(rt; place_by_counting(text, offset), place, "in {text:?}");
         assert_eq!(rt; map.offset(place), Some(offset), "in {text:?}");

@@ -1,6 +1,11 @@
-pub mod Decimals
+pub mod Operators
+pub mod Fronts
+pub mod Runs
+pub mod RowLaws
+pub mod Measure
+pub mod CutLaws
+pub mod LineLaws
 pub mod Digits
-pub mod FirstLines
-pub mod FirstPieces
-pub mod Fronted
-pub mod Stretches
+pub mod Exists
+pub mod Decoding
+pub mod SpanLaws

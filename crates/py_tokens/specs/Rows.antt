@@ -1,82 +1,166 @@
--- The pieces of a line: which texts are a token, blanks or a comment, and which front of a text is its first piece, the
--- longest that is one of these.
--- Python 3.12 language reference, 2 (lexical analysis), 2.3 (identifiers), 2.4.5 (integer literals).
-use Rattle.std.specs.Prelude.{ℕ, zero, suc, Bool, true, false, ◌&&◌, ◌||◌, ◌==◌, List, [], ◌∷◌, length, take, drop, Option, Some, None, if◌then◌else◌}
+-- The table of tokens and gaps: which row begins at a place, which texts are of a row, and which fault stands where
+-- none fits.
+-- Python 3.12 language reference, 2 "Lexical analysis".
+use Rattle.std.specs.Prelude.{ℕ, ◌+◌, ◌⊎◌, Bool, true, false, not, ◌&&◌, ◌||◌, List, [], ◌∷◌, length, Option, Some, None, if◌then◌else◌, ◌==◌, nat_le, nat_lt, slice_index}
 use Rattle.std.specs.Char.{is_ascii_digit}
-use Rattle.std.specs.List.{list_all}
-use Rattle.unicode_ident.specs.Ident.{is_xid_start, is_xid_continue}
-use Rattle.py_tokens.specs.Numbers.{is_zero}
-use Rattle.py_tokens.specs.declared.rows.Piece.{Piece}
+use Rattle.py_tokens.specs.Chars.{starts_name, is_blank, ends_line, opens_bracket, end_len, has, every}
+use Rattle.py_tokens.specs.Words.{word_kind, is_glued}
+use Rattle.py_tokens.specs.Signs.{sign_kind}
+use Rattle.py_tokens.specs.Strings.{closes_here, closing_len, string_opening}
+use Rattle.py_tokens.specs.States.{when, kind_from}
+use Rattle.py_tokens.specs.Fronts.{IsLongest, HasNone}
+use Rattle.py_tokens.specs.declared.kinds.Kind.{Kind}
+use Rattle.py_tokens.specs.declared.kinds.Kind.TheVariants as kind
+use Rattle.py_tokens.specs.declared.kinds.Gap.TheVariants.{Blanks, Comment, Join, InnerEnd, LineEnd}
+use Rattle.py_tokens.specs.declared.kinds.TokenKind.TheVariants.{FStart, FEnd, Operator}
+use Rattle.py_tokens.specs.declared.kinds.TokenFault.{TokenFault}
+use Rattle.py_tokens.specs.declared.kinds.TokenFault.TheVariants.{BadCharacter, UnclosedString, UnclosedBracket, NestingLimit}
+use Rattle.py_tokens.specs.declared.kinds.Piece.{Piece}
+use Rattle.py_tokens.specs.declared.chars.Class.{Class}
+use Rattle.py_tokens.specs.declared.chars.Class.TheVariants.{NamePart, Blank, InLine}
+use Rattle.py_tokens.specs.declared.numbers.InNumber.TheVariants as number
+use Rattle.py_tokens.specs.declared.strings.Quotes.{Quotes}
+use Rattle.py_tokens.specs.declared.strings.Opening.{Opening}
+use Rattle.py_tokens.specs.declared.strings.InString.TheVariants as string
+use Rattle.py_tokens.specs.declared.strings.InText.TheVariants as prose
+use Rattle.py_tokens.specs.declared.states.State.TheVariants as state
+use Rattle.py_tokens.specs.declared.rows.Mode.{Mode}
+use Rattle.py_tokens.specs.declared.rows.Mode.TheVariants.{Code, Text}
+use Rattle.py_tokens.specs.declared.rows.Here.{Here}
 use Rattle.py_tokens.specs.declared.rows.Row.{Row}
-use Rattle.py_tokens.specs.declared.rows.Row.TheVariants.{Word, Zeros, Number, Sign, Blanks, Comment}
+use Rattle.py_tokens.specs.declared.rows.Row.TheVariants.{Exactly, Run, Reads, Signs, Skipped, Stop, Nothing}
 
-abbrev pub starts_name : ℕ → Bool
-starts_name c = is_xid_start c || (c == 95)
+-- ---- the texts of a row
 
-abbrev pub is_blank : ℕ → Bool
-is_blank c = ((c == 32) || (c == 9)) || (c == 12)
+abbrev pub not_empty : List ℕ → Bool
+not_empty [] = false
+not_empty (c ∷ cs) = true
 
--- `=`, `(` and `)`
-abbrev pub is_sign : ℕ → Bool
-is_sign c = ((c == 61) || (c == 40)) || (c == 41)
+abbrev pub run_kind : Class → List ℕ → Kind
+run_kind NamePart front = kind.Token (word_kind front)
+run_kind Blank front = kind.Gap Blanks
+run_kind InLine front = kind.Gap Comment
 
--- ---- the table: what a text is, as a whole
+-- a character, and the rest of its physical line
+abbrev pub skips : List ℕ → Bool
+skips [] = false
+skips (c ∷ cs) = every (has InLine) cs
 
--- the row whose texts begin with this character
-unfoldable pub row_from : ℕ → Option Row
-row_from c =
-    if starts_name c then Some Word
-    else (if is_zero c then Some Zeros
-    else (if is_ascii_digit c then Some Number
-    else (if is_sign c then Some Sign
-    else (if is_blank c then Some Blanks
-    else (if c == 35 then Some Comment
-    else None)))))
+-- what a front is as a text of the row, where this follows
+abbrev pub row_kind : Row → List ℕ → List ℕ → Option Kind
+row_kind (Exactly n k) front rest = when (not_empty front && (length front == n)) k
+row_kind (Run class) front rest = when (every (has class) front && not_empty front) (run_kind class front)
+row_kind (Reads s) front rest = kind_from (Some s) front rest
+row_kind (Signs in_field) front rest = sign_kind in_field front
+row_kind (Skipped fault) front rest = when (skips front) (kind.Fault fault)
+row_kind (Stop fault) front rest = when (not (not_empty front)) (kind.Fault fault)
+row_kind Nothing front rest = None
 
--- a text of this row goes on with this character
-abbrev pub goes_on : Row → ℕ → Bool
-goes_on Word c = is_xid_continue c
-goes_on Zeros c = is_zero c
-goes_on Number c = is_ascii_digit c
-goes_on Sign c = false
-goes_on Blanks c = is_blank c
-goes_on Comment c = true
+-- ---- which row begins at a place
 
-abbrev pub row_if_goes_on : Option Row → List ℕ → Option Row
-row_if_goes_on None cs = None
-row_if_goes_on (Some row) cs = if list_all (goes_on row) cs then Some row else None
+-- one more bracket or field would pass the limit
+abbrev pub is_deepest : Here → Bool
+is_deepest here = nat_le 64 here.depth
 
--- the row of a text
-abbrev pub row_of : List ℕ → Option Row
-row_of [] = None
-row_of (c ∷ cs) = row_if_goes_on (row_from c) cs
+abbrev pub opening_row : Opening → Row
+opening_row opening =
+    if opening.formatted then Exactly opening.len (kind.Token FStart)
+    else Reads (state.String opening.quotes (string.Opening opening.len))
 
--- ---- the longest match
+-- names, numbers, blanks, comments and operators, by their first two characters
+abbrev pub plain_row : Here → Bool → ℕ → ℕ → Row
+plain_row here in_field c d =
+    if starts_name c then Run NamePart
+    else (if is_ascii_digit c || ((c == 46) && is_ascii_digit d) then Reads (state.Number number.Start)
+    else (if is_blank c then Run Blank
+    else (if c == 35 then Run InLine
+    else (if opens_bracket c && is_deepest here then Nothing
+    else Signs in_field))))
 
-abbrev pub or_shorter : Option Row → ℕ → Option Piece → Option Piece
-or_shorter None n shorter = shorter
-or_shorter (Some row) n shorter = Some (record { row = row; len = n })
+abbrev pub string_or : Option Opening → Row → Row
+string_or None row = row
+string_or (Some opening) row = opening_row opening
 
--- of the fronts of a text of at most n characters, the longest that has a row
-abbrev pub longest_front : List ℕ → ℕ → Option Piece
-longest_front text zero = None
-longest_front text (suc n) = or_shorter (row_of (take (suc n) text)) (suc n) (longest_front text n)
+-- a prefix directly before a quote begins a string
+abbrev pub token_row : Here → Bool → List ℕ → Row
+token_row here in_field text = string_or (string_opening text) (plain_row here in_field (slice_index text 0) (slice_index text 1))
 
-abbrev pub is_number : Row → Bool
-is_number Zeros = true
-is_number Number = true
-is_number _ = false
+-- a line end at a depth above 0 or inside a field does not end the logical line
+abbrev pub line_end : Here → Kind
+line_end here = kind.Gap (if here.is_open then InnerEnd else LineEnd)
 
--- the text begins with a character that a name can have
-abbrev pub continues_name : List ℕ → Bool
-continues_name [] = false
-continues_name (c ∷ cs) = is_xid_continue c
+abbrev pub join_row : ℕ → Row
+join_row n = if nat_lt 0 n then Exactly (n + 1) (kind.Gap Join) else Nothing
 
--- a number is no piece where a character of a name directly follows it
-abbrev pub unless_cut_off : Option Piece → List ℕ → Option Piece
-unless_cut_off None text = None
-unless_cut_off (Some piece) text = if is_number piece.row && continues_name (drop piece.len text) then None else Some piece
+-- a line end; a backslash, which joins lines directly before a line end; behind a number no word that may not stand
+-- there; and tokens, blanks and comments
+unfoldable pub code_row : Here → Bool → List ℕ → Row
+code_row here in_field text =
+    let c = slice_index text 0 in
+    let d = slice_index text 1 in
+    if ends_line c then Exactly (end_len c d) (line_end here)
+    else (if c == 92 then join_row (end_len d (slice_index text 2))
+    else (if here.after_number && is_glued text then Nothing
+    else token_row here in_field text))
 
--- the piece at the front of a text; none where no piece begins
-abbrev pub first_piece : List ℕ → Option Piece
-first_piece text = unless_cut_off (longest_front text (length text)) text
+-- in an f-string the closing quotes, the braces of fields, and runs of text; in a format a closing brace ends the
+-- format, doubled or not
+unfoldable pub text_row : Here → Bool → Quotes → List ℕ → Row
+text_row here in_format quotes text =
+    let c = slice_index text 0 in
+    if closes_here quotes text then Exactly (closing_len quotes) (kind.Token FEnd)
+    else (if in_format && (c == 125) then Exactly 1 (kind.Token Operator)
+    else (if (c == 123) && not (slice_index text 1 == 123) then (if is_deepest here then Nothing else Exactly 1 (kind.Token Operator))
+    else Reads (state.Text in_format quotes prose.Start)))
+
+abbrev pub row_in : Mode → Here → List ℕ → Row
+row_in (Code in_field) here text = code_row here in_field text
+row_in (Text in_format quotes) here text = text_row here in_format quotes text
+
+abbrev pub row_at : Here → List ℕ → Row
+row_at here text = row_in here.mode here text
+
+-- ---- which fault stands where nothing fits, and what it takes along
+
+-- at the end of the text, where something is open: where tokens are read, the depth tells whether a bracket or a field
+-- is missed, or else the string of the field
+abbrev pub end_fault : Mode → ℕ → TokenFault
+end_fault (Code in_field) depth = if nat_lt 0 depth then UnclosedBracket else UnclosedString
+end_fault (Text in_format quotes) depth = UnclosedString
+
+-- a single brace that opens a field stops only at the limit, a closing one is no text, and at a line end, or at a
+-- backslash that ends the text, the closing quote is missing
+abbrev pub text_fault : ℕ → Row
+text_fault c =
+    if c == 123 then Skipped NestingLimit
+    else (if c == 125 then Skipped BadCharacter
+    else (if ends_line c then Stop UnclosedString
+    else Skipped UnclosedString))
+
+abbrev pub unclosed_or : Option Opening → Row → Row
+unclosed_or None row = row
+unclosed_or (Some opening) row = Reads (state.BeforeUnclosed opening.quotes opening.len)
+
+-- a string that does not close takes what stands inside it along
+unfoldable pub code_fault : Here → List ℕ → Row
+code_fault here text =
+    if here.after_number && is_glued text then Skipped BadCharacter
+    else unclosed_or (string_opening text) (if opens_bracket (slice_index text 0) then Skipped NestingLimit else Skipped BadCharacter)
+
+abbrev pub fault_in : Mode → Here → List ℕ → Row
+fault_in mode here [] = Stop (end_fault mode here.depth)
+fault_in (Code in_field) here (c ∷ cs) = code_fault here (c ∷ cs)
+fault_in (Text in_format quotes) here (c ∷ cs) = text_fault c
+
+abbrev pub fault_row : Here → List ℕ → Row
+fault_row here text = fault_in here.mode here text
+
+-- ---- the piece that stands at a place: the longest text of its row, or a fault where no text of the row stands there
+
+abbrev pub shape : Piece → ℕ × Kind
+shape p = (p.len, p.kind)
+
+abbrev pub Fits : Here → List ℕ → Piece → Type 0
+Fits here text p =
+    IsLongest (row_kind (row_at here text)) text (shape p)
+    ⊎ (HasNone (row_kind (row_at here text)) text × IsLongest (row_kind (fault_row here text)) text (shape p))

@@ -2,31 +2,41 @@
 //! and its first fault.
 //!
 //! In one sentence: the lines that `cut` gives are `logical_lines` of the text's characters, the
-//! definition of `specs/LogicalLines.antt`, for every text of at most 524,288 bytes.
+//! only lines that `IsCut`, the definition of `specs/LogicalLines.antt`, allows them, for every
+//! text of at most 524,288 bytes.
 //! Below stand `py_base` (lists, texts, spans) and `unicode_ident` (which characters a name has).
 //!
-//! This is the first stage of the tokens of Python: names, keywords, integers of decimal digits and
-//! the operators `=`, `(` and `)`, each logical line being one physical line. Offsets, spans and
-//! columns count characters (Unicode scalar values).
+//! A text is cut into pieces: tokens, gaps and faults. `rows` has the table of what may stand at a
+//! place, where `opens` says what is open there; `numbers`, `strings`, `signs` and `words` have its
+//! rows; `pieces` cuts, `lines` parts the pieces at the ends of logical lines, and `blocks` finds
+//! the lines that break their block. Offsets, spans and columns count characters (Unicode scalar
+//! values).
 #![tactic(auto)]
 
-mod column;
-mod fault;
-mod found;
-mod keywords;
-mod line;
-mod number;
-mod physical;
+mod blocks;
+mod chars;
+mod cutting;
+mod escapes;
+mod ints;
+mod kinds;
+mod lines;
+mod literals;
+mod numbers;
+mod opens;
+mod pieces;
 mod plain;
 mod rows;
-mod scan;
-mod token;
+mod signs;
+mod states;
+mod strings;
+mod words;
 
-pub use line::{Cut, LogicalLine};
-pub use number::int_value;
+pub use cutting::{cut, joined, one_cut, one_reading};
+pub use ints::int_value;
+pub use kinds::{TokenFault, TokenKind};
+pub use lines::{Cut, LogicalLine, Token};
+pub use literals::{StringValue, string_value};
 pub use plain::plain_cut;
-pub use scan::cut;
-pub use token::{Token, TokenFault, TokenKind};
 
 #[cfg(test)]
 mod tests;

@@ -1,161 +1,156 @@
-//! The logical lines by the definition's own words: each front of each text is tried, and each
-//! character is asked whether it ends a line. Slow; to compare with.
-ghost use Rattle.std.specs.Prelude.{◌≡◌, ◌+◌, ◌^◌, ◌<◌, ◌≤◌, ◌∷◌, length, take, drop, IfOk, IfSome};
-ghost use Rattle.std.specs.List.{list_all};
+//! The cut by the definition's own words: each front of what is left is tried, the longest first.
+//! Slow; to compare with on small texts.
+ghost use Rattle.std.specs.Prelude.{◌≡◌, ◌≤◌, List, [], length, All, IfOk, Some, false, sum_by};
 ghost use Rattle.std.specs.Str.{chars};
-ghost use Rattle.py_tokens.specs.Lines.{ends_line, physical_lines, without_end};
-ghost use Rattle.py_tokens.specs.LogicalLines.{has_bad_character, lines_from, logical_line, logical_lines, stretches, tokens_of};
-ghost use Rattle.py_tokens.specs.Rows.{first_piece, goes_on, longest_front, row_of};
+ghost use Rattle.py_tokens.specs.Chars.{every, has};
+ghost use Rattle.py_tokens.specs.States.{kind_from};
+ghost use Rattle.py_tokens.specs.Rows.{row_kind, skips, Fits};
+ghost use Rattle.py_tokens.specs.Nesting.{none_open};
+ghost use Rattle.py_tokens.specs.Cut.{Cut as IsCutInto};
+ghost use Rattle.py_tokens.specs.LogicalLines.{IsCut, logical_lines, longest_of, piece_of};
+ghost use Rattle.py_tokens.specs.Spans.{IsLineIn};
 
-use crate::column::column_behind;
-use crate::fault::fault_of;
-use crate::found::{Found, push_token};
-use crate::line::{Cut, LogicalLine};
-use crate::physical::{begins_with, text_len};
-use crate::rows::{Piece, Row, goes_on, is_cut_off, row_from, run_len};
-use crate::scan::{characters, has_statement, mark_len};
-use py_base::{List, NoMemory, Span};
+use crate::chars::{Class, has};
+use crate::cutting::{behind_mark, characters, lines_of_cut};
+use crate::kinds::{Kind, Piece, TokenFault};
+use crate::lines::{Cut, LogicalLine};
+use crate::opens::{Opens, after, here, is_number};
+use crate::pieces::{is_done, push_piece};
+use crate::rows::{Here, Row, fault_row, row_at, run_kind};
+use crate::signs::sign_kind;
+use crate::states::{State, state_kind, state_next, when};
+use py_base::{List, NoMemory};
 use std::alloc::Global;
 
-fn all_go_on(row: Row, text: &[char]) -> bool
-    ensures { result ≡ list_all (goes_on row) text.now }
+fn every_has(class: Class, text: &[char]) -> bool
+    ensures { result ≡ every (has class) text.now }
 {
-    text.iter().all(|c| goes_on(row, *c))
-}
-
-fn row_of_parts(first: char, rest: &[char]) -> Option<Row>
-    ensures { result ≡ row_of (first ∷ rest.now) }
-{
-    match row_from(first) {
-        Some(row) if all_go_on(row, rest) => Some(row),
-        _ => None,
+    for c in text {
+        if !has(class, *c) {
+            return false;
+        }
     }
+    true
 }
 
-fn row_of(text: &[char]) -> Option<Row>
-    ensures { result ≡ row_of text.now }
+// What a text is, read through these states, where `rest` follows.
+fn kind_from(start: State, text: &[char], rest: &[char]) -> Option<Kind>
+    ensures { result ≡ kind_from (Some start) text.now rest.now }
+{
+    let mut state = start;
+    for c in text {
+        match state_next(state, *c) {
+            None => return None,
+            Some(next) => state = next,
+        }
+    }
+    state_kind(state, rest)
+}
+
+fn skips(text: &[char]) -> bool
+    ensures { result ≡ skips text.now }
 {
     match text.split_first() {
-        Some((first, rest)) => row_of_parts(*first, rest),
-        None => None,
+        None => false,
+        Some((_, rest)) => every_has(Class::InLine, rest),
     }
 }
 
-fn longest_front(text: &[char]) -> Option<Piece>
-    ensures value { result ≡ longest_front text.now (length text.now) }
-    ensures some { IfSome result (λ piece. 0 < piece.len) }
-    ensures within { IfSome result (λ piece. piece.len ≤ length text.now) }
+// What a front is as a text of the row, where `rest` follows.
+fn row_kind(row: Row, front: &[char], rest: &[char]) -> Option<Kind>
+    ensures { result ≡ row_kind row front.now rest.now }
 {
-    for less in (0..text.len()).rev() {
-        if let Some(row) = row_of(&text[..less + 1]) {
-            return Some(Piece { row, len: less + 1 });
+    match row {
+        Row::Exactly(len, kind) => when(!front.is_empty() && front.len() == len, kind),
+        Row::Run(class) => {
+            when(
+                every_has(class, front) && !front.is_empty(),
+                run_kind(class, front),
+            )
+        }
+        Row::Reads(state) => kind_from(state, front, rest),
+        Row::Signs(in_field) => sign_kind(in_field, front),
+        Row::Skipped(fault) => when(skips(front), Kind::Fault(fault)),
+        Row::Stop(fault) => when(front.is_empty(), Kind::Fault(fault)),
+        Row::Nothing => None,
+    }
+}
+
+fn longest_of(row: Row, text: &[char]) -> Option<(usize, Kind)>
+    ensures { result ≡ longest_of row text.now }
+{
+    for less in (0..text.len() + 1).rev() {
+        match row_kind(row, &text[..less], &text[less..]) {
+            Some(kind) => return Some((less, kind)),
+            None => {}
         }
     }
     None
 }
 
-fn first_piece(text: &[char]) -> Option<Piece>
-    ensures value { result ≡ first_piece text.now }
-    ensures some { IfSome result (λ piece. 0 < piece.len) }
-    ensures within { IfSome result (λ piece. piece.len ≤ length text.now) }
+// The piece that stands here: the longest text of its row, else of its fault's.
+fn piece_of(here: Here, text: &[char]) -> Piece
+    ensures { result ≡ piece_of here text.now }
 {
-    let piece = longest_front(text)?;
-    if is_cut_off(piece.row, &text[piece.len..]) {
-        None
-    } else {
-        Some(piece)
+    if let Some((len, kind)) = longest_of(row_at(here, text), text) {
+        return Piece { kind, len };
+    }
+    match longest_of(fault_row(here, text), text) {
+        Some((len, kind)) => Piece { kind, len },
+        None => Piece {
+            kind: Kind::Fault(TokenFault::BadCharacter),
+            len: 1,
+        },
     }
 }
 
-fn found_in(alloc: Global, text: &[char], from: u32) -> Result<Found, NoMemory>
-    requires { from + length text.now < 2 ^ 32 }
-    ensures tokens { IfOk result (λ found. found.tokens ≡ tokens_of (stretches 0 from text.now)) }
-    ensures bad { IfOk result (λ found. found.is_bad ≡ has_bad_character (stretches 0 from text.now)) }
+fn plain_piece_at(here: Here, text: &[char]) -> Piece
+    ensures fits { Fits here text.now result }
+    ensures within { result.len ≤ length text.now }
 {
-    let mut tokens = List::new(alloc);
+    piece_of(here, text)
+}
+
+fn pieces_of(alloc: Global, text: &[char]) -> Result<Vec<Piece>, NoMemory>
+    ensures cut { IfOk result (λ v. IsCutInto none_open false text.now v.items) }
+    ensures whole { IfOk result (λ v. sum_by (λ p. p.len) v.items ≡ length text.now) }
+{
+    let mut out = Vec::new(alloc);
+    let mut opens = Opens::new(alloc);
+    let mut after_number = false;
     let mut rest = text;
-    let mut at = from;
-    while let Some(piece) = first_piece(rest) {
-        let (spelling, behind) = rest.split_at(piece.len);
-        push_token(alloc, &mut tokens, piece.row, spelling, at)?;
-        at += piece.len as u32;
-        rest = behind;
+    while !is_done(&opens, rest) {
+        let piece = plain_piece_at(here(&opens, after_number), rest);
+        after(&mut opens, piece.kind, &rest[..piece.len])?;
+        after_number = is_number(piece.kind);
+        push_piece(&mut out, piece)?;
+        rest = &rest[piece.len..];
     }
-    Ok(Found {
-        tokens,
-        is_bad: !rest.is_empty(),
-    })
+    Ok(out)
 }
 
-fn logical_line(alloc: Global, line: &[char], at: u32) -> Result<Option<LogicalLine>, NoMemory>
-    requires small { length line.now < 2 ^ 28 }
-    requires room { at + length line.now < 2 ^ 32 }
-    ensures { IfOk result (λ found. found ≡ logical_line at line.now) }
+// The logical lines of a text, by its characters.
+fn plain_lines(alloc: Global, text: &[char]) -> Result<List<LogicalLine>, NoMemory>
+    requires { length text.now ≤ 524288 }
+    ensures lines { IfOk result (λ lines. lines ≡ logical_lines text.now) }
+    ensures is_cut { IfOk result (λ lines. IsCut text.now lines) }
+    ensures within { IfOk result (λ lines. All (IsLineIn (length text.now)) lines) }
 {
-    let (blanks, rest) = line.split_at(run_len(Row::Blanks, line));
-    if !has_statement(rest) {
-        return Ok(None);
-    }
-    let span = Span {
-        from: at + blanks.len() as u32,
-        to: at + line.len() as u32,
-    };
-    let found = found_in(alloc, rest, span.from)?;
-    Ok(Some(LogicalLine {
-        fault: fault_of(found.tokens.as_slice(), found.is_bad),
-        tokens: found.tokens,
-        span,
-        column: column_behind(blanks),
-    }))
-}
-
-fn ends_line(c: char, behind: &[char]) -> bool
-    ensures { result ≡ ends_line c behind.now }
-{
-    c == '\n' || c == '\r' && !begins_with('\n', behind)
-}
-
-fn first_line_len(rest: &[char]) -> usize
-    requires { 0 < length rest.now }
-    ensures first { physical_lines rest.now ≡ take result rest.now ∷ physical_lines (drop result rest.now) }
-    ensures some { 0 < result }
-    ensures within { result ≤ length rest.now }
-{
-    for (i, c) in rest.iter().enumerate() {
-        if ends_line(*c, &rest[i + 1..]) {
-            return i + 1;
-        }
-    }
-    rest.len()
-}
-
-fn lines_from(alloc: Global, text: &[char], from: u32) -> Result<List<LogicalLine>, NoMemory>
-    requires small { length text.now < 2 ^ 28 }
-    requires room { from + length text.now < 2 ^ 32 }
-    ensures { IfOk result (λ lines. lines ≡ lines_from from (physical_lines text.now)) }
-{
-    let mut lines = List::new(alloc);
-    let mut rest = text;
-    let mut at = from;
-    while !rest.is_empty() {
-        let (line, behind) = rest.split_at(first_line_len(rest));
-        if let Some(found) = logical_line(alloc, &line[..text_len(line)], at)? {
-            lines.push(found)?;
-        }
-        at += line.len() as u32;
-        rest = behind;
-    }
+    let pieces = pieces_of(alloc, behind_mark(text))?;
+    let lines = lines_of_cut(alloc, text, &pieces)?;
     Ok(lines)
 }
 
-/// The same as `cut`, in a time that grows with the square of a line's length and more.
-#[tactic(auto, unfolding(crate::specs::LogicalLines::logical_lines))]
+/// What `cut` gives, by trying each front of what is left of the text: slow, for small texts.
+///
+/// `NoMemory` where memory was asked for and not had.
 pub fn plain_cut(alloc: Global, text: &str) -> Result<Cut, NoMemory>
     requires { length text.now ≤ 524288 }
-    ensures { IfOk result (λ cut. cut.lines ≡ logical_lines (chars text.now)) }
+    ensures lines { IfOk result (λ c. c.lines ≡ logical_lines (chars text.now)) }
+    ensures is_cut { IfOk result (λ c. IsCut (chars text.now) c.lines) }
+    ensures within { IfOk result (λ c. All (IsLineIn (length (chars text.now))) c.lines) }
 {
-    let characters = characters(alloc, text)?;
-    let mark = mark_len(&characters);
-    let lines = lines_from(alloc, &characters[mark..], mark as u32)?;
+    let text = characters(alloc, text)?;
+    let lines = plain_lines(alloc, &text)?;
     Ok(Cut { lines })
 }

@@ -1,7 +1,8 @@
--- Lines up to the first that ends the session.
-use Rattle.std.proofs.Common.{◌≡◌, ◌∙◌, ℕ, Bool, true, false, cond, ◌||◌, List, [], ◌∷◌, ◌++◌, refl}
+-- Lines up to the first that ends the session, and the mark of a source that has ended.
+use Rattle.std.proofs.Common.{◌≡◌, ◌∙◌, ◌⊎◌, inl, inr, sym, ap, ℕ, Bool, true, false, cond, ◌||◌, List, [], ◌∷◌, ◌++◌, refl}
 use Rattle.std.proofs.lemmas.List.Folds.{list_any-append}
 use Rattle.pyflow.specs.Journal.{is_end_line, until_end, has_end}
+use Rattle.pyflow.specs.Served.{IsMarked}
 
 -- behind lines of which none ends the session the others follow
 pub until_end-going : (line : List ℕ) (more : List (List ℕ)) → is_end_line line ≡ false → until_end (line ∷ more) ≡ line ∷ until_end more
@@ -19,3 +20,9 @@ has_end-more lines line none = list_any-append is_end_line lines (line ∷ []) �
     or_false : (b : Bool) → (b || false) ≡ b
     or_false true = refl
     or_false false = refl
+
+-- a call of the reader keeps what the source's mark says
+pub marks : {X : Type 0} (ended : X → Bool) (first old new : X) (at_end at_end' : Bool) → IsMarked (ended first) (ended old) at_end → ((new ≡ old) × (at_end' ≡ at_end)) ⊎ (ended new ≡ at_end') → IsMarked (ended first) (ended new) at_end'
+marks ended first old new at_end at_end' before (inr now) = inr now
+marks ended first old new at_end at_end' (inl (as_first, going)) (inl (same, kept)) = inl (ap ended same ∙ as_first, kept ∙ going)
+marks ended first old new at_end at_end' (inr marked) (inl (same, kept)) = inr (ap ended same ∙ marked ∙ sym kept)

@@ -6,7 +6,7 @@ use Rattle.std.proofs.lemmas.Option.{slice_get-get_or, none-some, same_Some}
 use Rattle.type_terms.specs.declared.atom.Atom.TheVariants.{Unknown}
 use Rattle.pyflow.specs.declared.form.Form.{Form}
 use Rattle.pyflow.specs.declared.form.Form.TheVariants.{Binding, Reveal}
-use Rattle.pyflow.specs.declared.form.Value.TheVariants.{Literal, Read}
+use Rattle.pyflow.specs.declared.form.Value.TheVariants.{Literal, NoneValue, Read}
 use Rattle.pyflow.specs.declared.antecedent.Antecedent.{Antecedent}
 use Rattle.pyflow.specs.declared.antecedent.Antecedent.TheVariants.{Line, Unbound, Undefined}
 use Rattle.pyflow.specs.Typing.{Types, Bindings, nothing_bound, binds, is_bound_in, after, bound_type, read_type}
@@ -68,6 +68,7 @@ read_type-by forms form i name within =
 -- the type of a line that reads a name
 pub type_of-by : (forms : List Form) (form : Form) (i : ℕ) (antecedent : Antecedent) → i ≤ length forms → antecedent_of (is_bound_in forms) (take i forms) form ≡ Some antecedent → type_of (is_bound_in forms) (bound_behind (is_bound_in forms) (take i forms)) form ≡ type_by forms antecedent
 type_of-by forms (Binding target (Literal literal)) i antecedent within is = absurd (none-some antecedent is)
+type_of-by forms (Binding target NoneValue) i antecedent within is = absurd (none-some antecedent is)
 type_of-by forms (Binding target (Read read)) i antecedent within is = read_type-by forms (Binding target (Read read)) i read.name within ∙ ap (type_by forms) (same_Some _ _ is)
 type_of-by forms (Reveal read) i antecedent within is = read_type-by forms (Reveal read) i read.name within ∙ ap (type_by forms) (same_Some _ _ is)
 
@@ -98,5 +99,6 @@ above-name known forms i name within = above-in (known name) (last_binding (take
 
 pub antecedent_of-above : (known : List ℕ → Bool) (forms : List Form) (form : Form) (i : ℕ) (antecedent : Antecedent) → i ≤ length forms → antecedent_of known (take i forms) form ≡ Some antecedent → IsAbove i antecedent
 antecedent_of-above known forms (Binding target (Literal literal)) i antecedent within is = absurd (none-some antecedent is)
+antecedent_of-above known forms (Binding target NoneValue) i antecedent within is = absurd (none-some antecedent is)
 antecedent_of-above known forms (Binding target (Read read)) i antecedent within is = subst (IsAbove i) (same_Some _ _ is) (above-name known forms i read.name within)
 antecedent_of-above known forms (Reveal read) i antecedent within is = subst (IsAbove i) (same_Some _ _ is) (above-name known forms i read.name within)

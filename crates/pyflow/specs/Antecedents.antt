@@ -10,7 +10,7 @@ use Rattle.pyflow.specs.declared.antecedent.Antecedent.{Antecedent}
 use Rattle.pyflow.specs.declared.antecedent.Antecedent.TheVariants.{Line, Unbound, Undefined}
 use Rattle.pyflow.specs.declared.form.NameUse.{NameUse}
 use Rattle.pyflow.specs.declared.form.Value.{Value}
-use Rattle.pyflow.specs.declared.form.Value.TheVariants.{Literal, Read}
+use Rattle.pyflow.specs.declared.form.Value.TheVariants.{Literal, NoneValue, Read}
 use Rattle.pyflow.specs.declared.form.Form.{Form}
 use Rattle.pyflow.specs.declared.form.Form.TheVariants.{Binding, Reveal}
 use Rattle.pyflow.specs.Typing.{binds, is_bound_in}
@@ -18,6 +18,7 @@ use Rattle.pyflow.specs.Typing.{binds, is_bound_in}
 -- the name that a value reads
 abbrev pub read_in : Value → Option NameUse
 read_in (Literal literal) = None
+read_in NoneValue = None
 read_in (Read read) = Some read
 
 -- the name that a line reads

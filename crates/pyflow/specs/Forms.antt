@@ -1,17 +1,22 @@
--- The three forms of line of this stage: NAME = literal, NAME = NAME, and reveal_type(NAME).
+-- The three forms of line of this stage: NAME = literal, NAME = NAME, and reveal_type(NAME). A literal is an integer, None,
+-- True, False, or a string between single quotes of one kind, without prefix and without a backslash.
 -- `reveal_type` is a name that no line binds and none reads, so it stands for no NAME here.
--- Python 3.12 language reference, 7.2 (assignment statements) and 6.3.4 (calls); typing specification, reveal_type().
-use Rattle.std.specs.Prelude.{ℕ, List, [], ◌∷◌, Bool, true, false, not, ◌&&◌, ◌==◌, if◌then◌else◌, Option, Some, None, option_map, option_and_then, is_none, codes}
-use Rattle.std.specs.Str.{bytes_eq}
-use Rattle.py_tokens.specs.declared.token.Token.{Token}
-use Rattle.py_tokens.specs.declared.token.TokenKind.{TokenKind}
-use Rattle.py_tokens.specs.declared.token.TokenKind.TheVariants.{Name, Int, Operator}
-use Rattle.py_tokens.specs.declared.line.LogicalLine.{LogicalLine}
-use Rattle.py_tokens.specs.Numbers.{int_of}
-use Rattle.type_terms.specs.declared.atom.Literal.TheVariants.{Int as Integer}
+-- Python 3.12 language reference, 2.4 (literals), 7.2 (assignment statements) and 6.3.4 (calls); typing specification, reveal_type().
+use Rattle.std.specs.Prelude.{ℕ, List, [], ◌∷◌, Bool, true, false, not, ◌&&◌, ◌||◌, ◌==◌, if◌then◌else◌, Option, Some, None, option_map, option_and_then, is_none, codes, eqb}
+use Rattle.std.specs.List.{list_any, starts_with}
+use Rattle.std.specs.Str.{bytes_eq, chars}
+use Rattle.py_tokens.specs.declared.lines.Token.{Token}
+use Rattle.py_tokens.specs.declared.kinds.TokenKind.{TokenKind}
+use Rattle.py_tokens.specs.declared.kinds.TokenKind.TheVariants.{Name, Keyword, Int, Str, Operator}
+use Rattle.py_tokens.specs.declared.lines.LogicalLine.{LogicalLine}
+use Rattle.py_tokens.specs.Ints.{int_of}
+use Rattle.py_tokens.specs.Literals.{string_value}
+use Rattle.py_tokens.specs.declared.literals.StringValue.{StringValue}
+use Rattle.py_tokens.specs.declared.literals.StringValue.TheVariants.{Text}
+use Rattle.type_terms.specs.declared.literal.Literal.TheVariants.{Int as Integer, Bool as Boolean, Str as String}
 use Rattle.pyflow.specs.declared.form.NameUse.{NameUse}
 use Rattle.pyflow.specs.declared.form.Value.{Value}
-use Rattle.pyflow.specs.declared.form.Value.TheVariants.{Literal, Read}
+use Rattle.pyflow.specs.declared.form.Value.TheVariants.{Literal, NoneValue, Read}
 use Rattle.pyflow.specs.declared.form.Form.{Form}
 use Rattle.pyflow.specs.declared.form.Form.TheVariants.{Binding, Reveal}
 
@@ -37,9 +42,35 @@ name_use token =
     if is_name_kind token.kind && not (bytes_eq token.text (codes "reveal_type")) then Some (record { name = token.text; span = token.span })
     else None
 
+-- the value of a keyword that is a literal
+abbrev pub keyword_value : List ℕ → Option Value
+keyword_value text =
+    if bytes_eq text (codes "None") then Some NoneValue
+    else (if bytes_eq text (codes "True") then Some (Literal (Boolean true))
+    else (if bytes_eq text (codes "False") then Some (Literal (Boolean false)) else None))
+
+-- the text begins with this quote, and not with three of them
+abbrev pub is_one_quoted : List ℕ → List ℕ → List ℕ → Bool
+is_one_quoted quote three text = starts_with eqb text quote && not (starts_with eqb text three)
+
+-- the spelling of a string between single quotes of one kind, without prefix and without a backslash
+abbrev pub is_plain_string : List ℕ → Bool
+is_plain_string text =
+    (is_one_quoted (codes "'") (codes "'''") text || is_one_quoted (codes "\"") (codes "\"\"\"") text) && not (list_any (λ c. c == 92) text)
+
+abbrev pub known_text : Option StringValue → Option Value
+known_text (Some (Text text)) = Some (Literal (String text))
+known_text _ = None
+
+-- the value of a string literal that a line of this stage may bind
+abbrev pub plain_string_value : List ℕ → Option Value
+plain_string_value text = if is_plain_string text then known_text (string_value (chars text)) else None
+
 -- the token as what stands right of `=`
 abbrev pub value_by_kind : TokenKind → Token → Option Value
 value_by_kind Int token = option_map (λ n. Literal (Integer n)) (int_of token.text)
+value_by_kind Str token = plain_string_value token.text
+value_by_kind Keyword token = keyword_value token.text
 value_by_kind Name token = option_map Read (name_use token)
 value_by_kind _ token = None
 

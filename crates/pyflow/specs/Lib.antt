@@ -8,6 +8,8 @@ pub mod LineTypes
 pub mod Walks
 pub mod Spans
 pub mod LineDiags
+pub mod LineFaults
+pub mod TypeText
 pub mod Reading
 pub mod Plain
 pub mod Reply

@@ -2,9 +2,9 @@
 -- Python 3.12 language reference, 4.2 (naming and binding); typing specification, reveal_type() and Literal.
 use Rattle.std.specs.Prelude.{ℕ, List, [], ◌∷◌, Bool, Option, Some, None, take, slice_get}
 use Rattle.std.specs.List.{fold}
-use Rattle.type_terms.specs.declared.atom.Atom.TheVariants.{Lit, Unknown as UnknownAtom}
+use Rattle.type_terms.specs.declared.atom.Atom.TheVariants.{Lit, Unknown as UnknownAtom, None as NoneAtom}
 use Rattle.pyflow.specs.declared.line_type.LineType.{LineType}
-use Rattle.pyflow.specs.declared.line_type.LineType.TheVariants.{Literal, Never, Unknown}
+use Rattle.pyflow.specs.declared.line_type.LineType.TheVariants.{Literal, NoneValue, Never, Unknown}
 use Rattle.pyflow.specs.declared.form.Form.{Form}
 use Rattle.pyflow.specs.declared.form.Form.TheVariants.{Binding, Reveal}
 use Rattle.pyflow.specs.Typing.{Types, Bindings, nothing_bound, after, read_type, value_type, is_bound_in}
@@ -33,5 +33,6 @@ type_at forms line = type_in (is_bound_in forms) (bound_above forms line) (slice
 -- the atoms of a line's type
 abbrev pub atoms_of : LineType → Types
 atoms_of (Literal literal) = Lit literal.now ∷ []
+atoms_of NoneValue = NoneAtom ∷ []
 atoms_of Never = []
 atoms_of Unknown = UnknownAtom ∷ []

@@ -5,13 +5,14 @@ use Rattle.std.specs.Str.{chars}
 use Rattle.py_base.specs.declared.span.Span.{Span}
 use Rattle.py_base.specs.declared.span.Place.{Place}
 use Rattle.py_base.specs.declared.diag.Diag.{Diag}
-use Rattle.py_base.specs.declared.diag.Rule.TheVariants.{Syntax, Limit}
+use Rattle.py_base.specs.declared.diag.Rule.TheVariants.{Limit}
 use Rattle.py_base.specs.Lines.{physical_lines}
 use Rattle.py_base.specs.Places.{place_of}
-use Rattle.py_tokens.specs.declared.line.LogicalLine.{LogicalLine}
+use Rattle.py_tokens.specs.declared.lines.LogicalLine.{LogicalLine}
 use Rattle.py_tokens.specs.LogicalLines.{logical_lines}
 use Rattle.pyflow.specs.Forms.{form_of}
-use Rattle.pyflow.specs.Typing.{diag, typing_diags}
+use Rattle.pyflow.specs.LineFaults.{line_fault}
+use Rattle.pyflow.specs.Typing.{typing_diags}
 use Rattle.pyflow.specs.declared.listing.TheConstants.{TEXT_LIMIT}
 
 -- line and column of the beginning of a span, and then of its end
@@ -29,12 +30,9 @@ line_lengths characters = map length (physical_lines characters)
 abbrev pub too_long : Diag
 too_long = record { at = 0 ∷ 0 ∷ 0 ∷ 0 ∷ []; rule = Limit; text = codes "Text is longer than 524288 bytes" }
 
-abbrev pub not_valid : (Span → List ℕ) → LogicalLine → Diag
-not_valid at line = diag at line.span Syntax (codes "Statement is not valid")
-
--- where a line isn't valid the list has the first such line alone
+-- where a line is faulty the list has the first such line alone
 abbrev pub lines_list : (Span → List ℕ) → Option LogicalLine → List LogicalLine → List Diag
-lines_list at (Some line) lines = not_valid at line ∷ []
+lines_list at (Some line) lines = line_fault at line.span line.fault ∷ []
 lines_list at None lines = typing_diags at (filter_map form_of lines)
 
 abbrev pub list_of_lines : (Span → List ℕ) → List LogicalLine → List Diag

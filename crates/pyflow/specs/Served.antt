@@ -70,10 +70,14 @@ pub record Account (status : Status) (journal : List Entry) (count : ℕ) (at_en
   pub written_is : written' ≡ behind written put
   pub outcome : Outcome status at_end bytes journal put
 
--- The same by the number of the status. Of a source that had not ended before, `at_end` says whether it has ended.
+-- the source's own mark says whether the input ended; where it is as it was before, the session may have met no end
+abbrev pub IsMarked : Bool → Bool → Bool → Type 0
+IsMarked ended ended' at_end = ((ended' ≡ ended) × (at_end ≡ false)) ⊎ (ended' ≡ at_end)
+
+-- The same by the number of the status, with what the source's mark says.
 pub record Reports (code : ℕ) (journal : List Entry) (count : ℕ) (ended ended' : Bool) (left left' written written' : Option (List ℕ)) : Type 0 where
   pub status : Status
   pub code_is : code ≡ code_of status
   pub at_end : Bool
-  pub at_end_is : ended ≡ false → ended' ≡ at_end
+  pub at_end_is : IsMarked ended ended' at_end
   pub account : Account status journal count at_end left left' written written'

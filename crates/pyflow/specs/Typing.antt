@@ -10,11 +10,11 @@ use Rattle.py_base.specs.declared.diag.Diag.{Diag}
 use Rattle.py_base.specs.declared.diag.Rule.{Rule}
 use Rattle.py_base.specs.declared.diag.Rule.TheVariants.{RevealType, UndefinedName, Unbound}
 use Rattle.type_terms.specs.declared.atom.Atom.{Atom}
-use Rattle.type_terms.specs.declared.atom.Atom.TheVariants.{Lit, Unknown}
-use Rattle.type_terms.specs.TypeText.{text_of}
+use Rattle.type_terms.specs.declared.atom.Atom.TheVariants.{Lit, Unknown, None as NoneAtom}
+use Rattle.pyflow.specs.TypeText.{text_of}
 use Rattle.pyflow.specs.declared.form.NameUse.{NameUse}
 use Rattle.pyflow.specs.declared.form.Value.{Value}
-use Rattle.pyflow.specs.declared.form.Value.TheVariants.{Literal, Read}
+use Rattle.pyflow.specs.declared.form.Value.TheVariants.{Literal, NoneValue, Read}
 use Rattle.pyflow.specs.declared.form.Form.{Form}
 use Rattle.pyflow.specs.declared.form.Form.TheVariants.{Binding, Reveal}
 
@@ -52,6 +52,7 @@ read_type known bound name = if known name then bound_type (bound name) else Unk
 
 abbrev pub value_type : (List ℕ → Bool) → Bindings → Value → Types
 value_type known bound (Literal literal) = Lit literal ∷ []
+value_type known bound NoneValue = NoneAtom ∷ []
 value_type known bound (Read read) = read_type known bound read.name
 
 -- what is bound behind a line
@@ -75,6 +76,7 @@ read_faults at known bound read =
 
 abbrev pub value_faults : (Span → List ℕ) → (List ℕ → Bool) → Bindings → Value → List Diag
 value_faults at known bound (Literal literal) = []
+value_faults at known bound NoneValue = []
 value_faults at known bound (Read read) = read_faults at known bound read
 
 -- the text of what is revealed

@@ -50,7 +50,7 @@ fn antecedent_of(bindings: &Bindings, form: &Form) -> Option<Antecedent>
     ensures { result ≡ option_map (λ read. antecedent_in (entry_at bindings.now read.name)) (read_of form.now) }
 {
     match form {
-        Form::Binding(_, Value::Literal(_)) => None,
+        Form::Binding(_, Value::Literal(_) | Value::NoneValue) => None,
         Form::Binding(_, Value::Read(read)) | Form::Reveal(read) => Some(antecedent_of_name(
             bindings, read,
         )),

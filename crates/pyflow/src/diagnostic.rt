@@ -1,22 +1,25 @@
 //! The diagnostics of lines.
 ghost use Rattle.std.specs.Prelude.{◌≡◌, ◌++◌, sum, codes, IfOk};
 ghost use Rattle.py_base.specs.declared.diag.Rule.TheVariants.{RevealType};
-ghost use Rattle.pyflow.specs.Spans.{IsWithin};
+ghost use Rattle.py_tokens.specs.Spans.{IsSpanIn};
 ghost use Rattle.pyflow.specs.Typing.{diag, quoted_name, reveal_text};
 ghost use Rattle.pyflow.specs.Listing.{at_of};
 ghost use Rattle.pyflow.specs.LineDiags.{fault_by};
 ghost use Rattle.pyflow.specs.LineTypes.{atoms_of};
+ghost use Rattle.pyflow.specs.TypeText.{text_of};
 
 use crate::antecedent::Antecedent;
 use crate::form::NameUse;
 use crate::line_type::LineType;
+use crate::no_program::NoProgram;
 use py_base::{Diag, LineMap, NoMemory, Rule, Span, Text};
 use std::alloc::Global;
-use type_terms::type_text;
+use type_terms::Type;
+use type_terms::text::type_text;
 
 /// The diagnostic of this rule and text at a span.
 pub fn diag_at(places: &LineMap, span: Span, rule: Rule, text: Text) -> Diag
-    requires { IsWithin (sum places.now) span }
+    requires { IsSpanIn (sum places.now) span }
     ensures { result ≡ diag (at_of places.now) span rule text }
 {
     let from = places.place(span.from);
@@ -35,12 +38,23 @@ pub fn revealed(
     read: &NameUse,
     shown: LineType,
 ) -> Result<Diag, NoMemory>
-    requires { IsWithin (sum places.now) read.now.span }
+    requires { IsSpanIn (sum places.now) read.now.span }
     ensures { IfOk result (λ d. d ≡ diag (at_of places.now) read.now.span RevealType (reveal_text (atoms_of shown.entry))) }
 {
-    let shown = type_text(alloc, &shown.atoms(alloc)?)?;
+    let shown = shown_text(alloc, &shown.atoms(alloc)?)?;
     let text = between(alloc, "Type is \"", shown.as_str(), "\"")?;
     Ok(diag_at(places, read.span, Rule::RevealType, text))
+}
+
+// The text of a type of this stage.
+#[tactic(auto, unfolding(crate::specs::TypeText::text_of))]
+fn shown_text(alloc: Global, shown: &Type) -> Result<Text, NoMemory>
+    ensures { IfOk result (λ text. text ≡ text_of shown.now) }
+{
+    match type_text(alloc, shown, &mut NoProgram::new(alloc)) {
+        Ok(text) => Ok(text),
+        Err(_) => Err(NoMemory),
+    }
 }
 
 /// The diagnostic of a read that is unbound or undefined.
@@ -50,7 +64,7 @@ pub fn fault(
     read: &NameUse,
     antecedent: Option<Antecedent>,
 ) -> Result<Option<Diag>, NoMemory>
-    requires { IsWithin (sum places.now) read.now.span }
+    requires { IsSpanIn (sum places.now) read.now.span }
     ensures { IfOk result (λ o. o ≡ fault_by (at_of places.now) read.now antecedent) }
 {
     match antecedent {
@@ -80,7 +94,7 @@ fn named(
     rule: Rule,
     behind: &str,
 ) -> Result<Diag, NoMemory>
-    requires { IsWithin (sum places.now) read.now.span }
+    requires { IsSpanIn (sum places.now) read.now.span }
     ensures { IfOk result (λ d. d ≡ diag (at_of places.now) read.now.span rule (quoted_name read.now.name ++ behind.now)) }
 {
     let name = between(alloc, "\"", read.name.as_str(), "\"")?;

@@ -1,10 +1,11 @@
 //! The forms of line that a text may have in this stage.
-ghost use Rattle.std.specs.Prelude.{◌≡◌, ◌&&◌, IfOk, codes, option_map};
+ghost use Rattle.std.specs.Prelude.{◌≡◌, ◌&&◌, ◌==◌, IfOk, codes, eqb, option_map};
 ghost use Rattle.pyflow.specs.declared.form.Form.TheVariants.{Reveal};
-ghost use Rattle.pyflow.specs.Forms.{is_operator, is_reveal_type, name_use, value_of, binding, form_of};
+ghost use Rattle.std.specs.List.{list_any, starts_with};
+ghost use Rattle.pyflow.specs.Forms.{is_operator, is_reveal_type, name_use, keyword_value, is_one_quoted, is_plain_string, plain_string_value, value_of, binding, form_of};
 
 use py_base::{NoMemory, Span, Text};
-use py_tokens::{LogicalLine, Token, TokenKind, int_value};
+use py_tokens::{LogicalLine, StringValue, Token, TokenKind, int_value, string_value};
 use std::alloc::Global;
 use type_terms::Literal;
 
@@ -16,14 +17,16 @@ pub struct NameUse {
 }
 
 /// What stands right of `=`.
-#[derive(Debug, Drop)]
+#[derive(Drop)]
 pub enum Value {
     Literal(Literal),
+    /// `None`.
+    NoneValue,
     Read(NameUse),
 }
 
 /// A valid line.
-#[derive(Debug, Drop)]
+#[derive(Drop)]
 pub enum Form {
     /// NAME `=` literal, or NAME `=` NAME.
     Binding(Text, Value),
@@ -64,10 +67,61 @@ fn value_of(alloc: Global, token: &Token) -> Result<Option<Value>, NoMemory>
             Some(n) => Ok(Some(Value::Literal(Literal::Int(n)))),
             None => Ok(None),
         },
+        TokenKind::Str => plain_string_value(alloc, token.text.as_str()),
+        TokenKind::Keyword => Ok(keyword_value(token.text.as_str())),
         TokenKind::Name => match name_use(alloc, token)? {
             Some(read) => Ok(Some(Value::Read(read))),
             None => Ok(None),
         },
+        _ => Ok(None),
+    }
+}
+
+fn keyword_value(text: &str) -> Option<Value>
+    ensures { result ≡ keyword_value text.now }
+{
+    match text {
+        "None" => Some(Value::NoneValue),
+        "True" => Some(Value::Literal(Literal::Bool(true))),
+        "False" => Some(Value::Literal(Literal::Bool(false))),
+        _ => None,
+    }
+}
+
+#[tactic(auto, using(std::proofs::lemmas::Str::Pattern::starts_text))]
+fn begins_with(front: &str, text: &str) -> bool
+    ensures { result ≡ starts_with eqb text.now front.now }
+{
+    text.starts_with(front)
+}
+
+// Whether a text begins with this quote, and not with three of them.
+fn is_one_quoted(quote: &str, three: &str, text: &str) -> bool
+    ensures { result ≡ is_one_quoted quote.now three.now text.now }
+{
+    begins_with(quote, text) && !begins_with(three, text)
+}
+
+fn has_backslash(text: &str) -> bool
+    ensures { result ≡ list_any (λ byte. byte == 92) text.now }
+{
+    text.as_bytes().iter().any(|byte| *byte == b'\\')
+}
+
+fn is_plain_string(text: &str) -> bool
+    ensures { result ≡ is_plain_string text.now }
+{
+    (is_one_quoted("'", "'''", text) || is_one_quoted("\"", "\"\"\"", text)) && !has_backslash(text)
+}
+
+fn plain_string_value(alloc: Global, text: &str) -> Result<Option<Value>, NoMemory>
+    ensures { IfOk result (λ o. o ≡ plain_string_value text.now) }
+{
+    if !is_plain_string(text) {
+        return Ok(None);
+    }
+    match string_value(alloc, text)? {
+        Some(StringValue::Text(text)) => Ok(Some(Value::Literal(Literal::Str(text)))),
         _ => Ok(None),
     }
 }

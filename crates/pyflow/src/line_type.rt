@@ -11,6 +11,8 @@ use type_terms::{Atom, Literal, Type};
 pub enum LineType<'a> {
     /// That of one literal.
     Literal(&'a Literal),
+    /// That of the value `None`.
+    NoneValue,
     /// That of no value: what is read is unbound.
     Never,
     /// Nothing is known: what is read is undefined.
@@ -23,7 +25,8 @@ impl LineType<'_> {
         ensures { IfOk result (λ atoms. atoms ≡ atoms_of self.entry) }
     {
         match self {
-            LineType::Literal(literal) => Type::one(alloc, Atom::Lit(*literal)),
+            LineType::Literal(literal) => Type::one(alloc, Atom::Lit(literal.copy(alloc)?)),
+            LineType::NoneValue => Type::one(alloc, Atom::None),
             LineType::Never => Ok(Type::empty(alloc)),
             LineType::Unknown => Type::one(alloc, Atom::Unknown),
         }

@@ -1,16 +1,14 @@
 //! The list of a text.
-ghost use Rattle.std.specs.Prelude.{◌≡◌, ◌∷◌, [], sum, codes, All, IfOk};
-ghost use Rattle.py_base.specs.declared.diag.Rule.TheVariants.{Syntax};
-ghost use Rattle.pyflow.specs.Spans.{IsWithin, IsLineWithin};
-ghost use Rattle.pyflow.specs.Typing.{diag};
+ghost use Rattle.std.specs.Prelude.{◌≡◌, ◌∷◌, [], sum, All, IfOk};
+ghost use Rattle.py_tokens.specs.Spans.{IsLineIn};
 ghost use Rattle.pyflow.specs.Listing.{at_of, list_of, list_of_lines, too_long};
 ghost use Rattle.pyflow.specs.Reading.{IsReading};
 
-use crate::diagnostic::diag_at;
 use crate::form::{Form, form_of};
+use crate::line_fault::line_fault;
 use crate::typing::typing_diags;
-use py_base::{Diag, LineMap, List, NoMemory, Rule, Span, Text, laws};
-use py_tokens::{LogicalLine, cut};
+use py_base::{Diag, LineMap, List, NoMemory, Rule, Span, Text};
+use py_tokens::{LogicalLine, TokenFault, cut};
 use std::alloc::Global;
 
 /// The longest text that is looked at, in bytes.
@@ -20,12 +18,12 @@ pub const TEXT_LIMIT: usize = 524_288;
 pub enum Reading {
     /// All are valid, with these forms.
     Valid(List<Form>),
-    /// The first line that isn't valid stands here.
-    NotValid(Span),
+    /// The first faulty line stands here, with its token fault, if it has one.
+    Faulty(Span, Option<TokenFault>),
 }
 
 /// The list of a text: the diagnostics that are published for it. A text above the limit has that
-/// limit's alone. A text with a line that isn't valid has one for the first such line alone. Places
+/// limit's alone. A text with a faulty line has one for the first such line alone. Places
 /// are line and column, counted from 0, columns in characters.
 #[tactic(auto, unfolding(crate::specs::Listing::list_of))]
 pub fn list_text(alloc: Global, text: &str) -> Result<List<Diag>, NoMemory>
@@ -36,7 +34,6 @@ pub fn list_text(alloc: Global, text: &str) -> Result<List<Diag>, NoMemory>
     }
     let places = LineMap::new(alloc, text)?;
     let cut = cut(alloc, text)?;
-    laws::lines_have_all();
     list_of_lines(alloc, &places, cut.lines.as_slice())
 }
 
@@ -46,15 +43,16 @@ fn list_of_lines(
     places: &LineMap,
     lines: &[LogicalLine],
 ) -> Result<List<Diag>, NoMemory>
-    requires { All (IsLineWithin (sum places.now)) lines.now }
+    requires { All (IsLineIn (sum places.now)) lines.now }
     ensures { IfOk result (λ list. list ≡ list_of_lines (at_of places.now) lines.now) }
 {
     match read_lines(alloc, lines)? {
         Reading::Valid(forms) => typing_diags(alloc, places, forms.as_slice()),
-        Reading::NotValid(span) => only(alloc, not_valid(alloc, places, span)?),
+        Reading::Faulty(span, fault) => only(alloc, line_fault(alloc, places, span, fault)?),
     }
 }
 
+/// Reads the lines of a text until one is faulty.
 pub fn read_lines(alloc: Global, lines: &[LogicalLine]) -> Result<Reading, NoMemory>
     ensures { IfOk result (λ reading. IsReading lines.now reading) }
 {
@@ -62,20 +60,13 @@ pub fn read_lines(alloc: Global, lines: &[LogicalLine]) -> Result<Reading, NoMem
     for line in lines {
         match form_of(alloc, line)? {
             Some(form) => forms.push(form)?,
-            None => return Ok(Reading::NotValid(line.span)),
+            None => return Ok(Reading::Faulty(line.span, line.fault)),
         }
     }
     Ok(Reading::Valid(forms))
 }
 
-pub fn not_valid(alloc: Global, places: &LineMap, span: Span) -> Result<Diag, NoMemory>
-    requires { IsWithin (sum places.now) span }
-    ensures { IfOk result (λ d. d ≡ diag (at_of places.now) span Syntax (codes "Statement is not valid")) }
-{
-    let text = Text::from_str(alloc, "Statement is not valid")?;
-    Ok(diag_at(places, span, Rule::Syntax, text))
-}
-
+/// The diagnostic of a text above the limit.
 pub fn too_long(alloc: Global) -> Result<Diag, NoMemory>
     ensures { IfOk result (λ d. d ≡ too_long) }
 {

@@ -2,7 +2,8 @@
 //! which walks back.
 ghost use Rattle.std.specs.Prelude.{◌≡◌, ◌++◌, List, ℕ, Bool, not, sum, length, ◌==◌, option_map, option_to_list, All, IfSome, IfOk, OnOk};
 ghost use Rattle.pyflow.specs.declared.form.Form.TheVariants.{Reveal};
-ghost use Rattle.pyflow.specs.Spans.{IsWithin, IsReadWithin, IsLineWithin};
+ghost use Rattle.py_tokens.specs.Spans.{IsSpanIn, IsLineIn};
+ghost use Rattle.pyflow.specs.Spans.{IsReadIn};
 ghost use Rattle.pyflow.specs.Typing.{after, binds, is_bound_in, is_last, line_diags, read_faults, read_type, typing_diags, value_faults, value_type};
 ghost use Rattle.pyflow.specs.Listing.{at_of, list_of, list_of_lines};
 ghost use Rattle.pyflow.specs.Antecedents.{read_in};
@@ -12,9 +13,10 @@ ghost use Rattle.pyflow.specs.Plain.{bindings_of};
 use crate::antecedent::Antecedent;
 use crate::diagnostic::{fault, revealed};
 use crate::form::{Form, NameUse, Value};
+use crate::line_fault::line_fault;
 use crate::line_type::LineType;
-use crate::listing::{Reading, TEXT_LIMIT, not_valid, only, read_lines, too_long};
-use py_base::{Diag, LineMap, List, NoMemory, laws};
+use crate::listing::{Reading, TEXT_LIMIT, only, read_lines, too_long};
+use py_base::{Diag, LineMap, List, NoMemory};
 use py_tokens::{LogicalLine, plain_cut};
 use std::alloc::Global;
 
@@ -35,7 +37,6 @@ pub fn plain_list(alloc: Global, text: &str) -> Result<List<Diag>, NoMemory>
     }
     let places = LineMap::new(alloc, text)?;
     let cut = plain_cut(alloc, text)?;
-    laws::lines_have_all();
     plain_list_of_lines(alloc, &places, cut.lines.as_slice())
 }
 
@@ -44,17 +45,17 @@ fn plain_list_of_lines(
     places: &LineMap,
     lines: &[LogicalLine],
 ) -> Result<List<Diag>, NoMemory>
-    requires { All (IsLineWithin (sum places.now)) lines.now }
+    requires { All (IsLineIn (sum places.now)) lines.now }
     ensures { IfOk result (λ list. list ≡ list_of_lines (at_of places.now) lines.now) }
 {
     match read_lines(alloc, lines)? {
         Reading::Valid(forms) => plain_diags(alloc, places, forms.as_slice()),
-        Reading::NotValid(span) => only(alloc, not_valid(alloc, places, span)?),
+        Reading::Faulty(span, fault) => only(alloc, line_fault(alloc, places, span, fault)?),
     }
 }
 
 fn plain_diags(alloc: Global, places: &LineMap, forms: &[Form]) -> Result<List<Diag>, NoMemory>
-    requires { All (IsReadWithin (sum places.now)) forms.now }
+    requires { All (IsReadIn (sum places.now)) forms.now }
     ensures { IfOk result (λ list. list ≡ typing_diags (at_of places.now) forms.now) }
 {
     let mut entries = Vec::new(alloc);
@@ -78,11 +79,11 @@ fn push_diags(
     entries: &[Entry],
     form: &Form,
 ) -> Result<(), NoMemory>
-    requires { IsReadWithin (sum places.now) form.now }
+    requires { IsReadIn (sum places.now) form.now }
     ensures { OnOk result (list.new ≡ list.old ++ line_diags (at_of places.now) (is_bound_in forms.now) (bindings_of entries.now) form.now) }
 {
     match form {
-        Form::Binding(_, Value::Literal(_)) => Ok(()),
+        Form::Binding(_, Value::Literal(_) | Value::NoneValue) => Ok(()),
         Form::Binding(_, Value::Read(read)) => push_fault(
             alloc, list, places, forms, entries, read,
         ),
@@ -98,7 +99,7 @@ fn push_reveal(
     entries: &[Entry],
     read: &NameUse,
 ) -> Result<(), NoMemory>
-    requires { IsWithin (sum places.now) read.now.span }
+    requires { IsSpanIn (sum places.now) read.now.span }
     ensures { OnOk result (list.new ≡ list.old ++ line_diags (at_of places.now) (is_bound_in forms.now) (bindings_of entries.now) (Reveal read.now)) }
 {
     let shown = read_type(forms, entries, read.name.as_str());
@@ -115,7 +116,7 @@ fn push_fault(
     entries: &[Entry],
     read: &NameUse,
 ) -> Result<(), NoMemory>
-    requires { IsWithin (sum places.now) read.now.span }
+    requires { IsSpanIn (sum places.now) read.now.span }
     ensures { OnOk result (list.new ≡ list.old ++ read_faults (at_of places.now) (is_bound_in forms.now) (bindings_of entries.now) read.now) }
 {
     let name = read.name.as_str();
@@ -173,6 +174,7 @@ fn value_type<'a>(forms: &[Form], entries: &[Entry<'a>], value: &'a Value) -> Li
 {
     match value {
         Value::Literal(literal) => LineType::Literal(literal),
+        Value::NoneValue => LineType::NoneValue,
         Value::Read(read) => read_type(forms, entries, read.name.as_str()),
     }
 }

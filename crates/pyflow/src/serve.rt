@@ -1,7 +1,7 @@
 //! The command `serve` with no worker: a session from bytes to bytes.
 ghost use Rattle.std.specs.Prelude.{◌≡◌, ◌≢◌, ◌≤◌, [], ◌∷◌, ◌++◌, false, None, Ok, ℕ, List, ◌⊎◌};
 ghost use Rattle.py_base.specs.Causes.{Rose};
-ghost use Rattle.pyflow.specs.Served.{code_of, Account, Reports};
+ghost use Rattle.pyflow.specs.Served.{code_of, Account, IsMarked, Reports};
 
 use crate::entry::Entry;
 use crate::session::{Broken, Session};
@@ -67,7 +67,7 @@ fn serve_lines<S: Source, K: Sink>(
     requires journal { session.old.journal ≡ [] }
     requires opened { session.old.opened ≡ false }
     ensures account { Account result session.new.journal reader.new.taken reader.new.at_end (S.left source.old) (S.left source.new) (K.written sink.old) (K.written sink.new) }
-    ensures at_end { S.ended source.old ≡ false → S.ended source.new ≡ reader.new.at_end }
+    ensures at_end { IsMarked (S.ended source.old) (S.ended source.new) reader.new.at_end }
     ensures served { result ≢ Status.Usage }
     ensures read_fault { result ≡ Status.ReadFault → Rose (S.faults source.old) (S.faults source.new) }
     ensures reads { result ≢ Status.ReadFault → S.faults source.new ≡ S.faults source.old }

@@ -1,7 +1,8 @@
 //! The diagnostics of the lines of a text, all of which are valid.
 ghost use Rattle.std.specs.Prelude.{◌≡◌, ◌++◌, not, sum, slice_get, Some, option_and_then, All, IfSome, IfOk, OnOk};
 ghost use Rattle.pyflow.specs.declared.form.Form.TheVariants.{Reveal};
-ghost use Rattle.pyflow.specs.Spans.{IsWithin, IsReadWithin};
+ghost use Rattle.py_tokens.specs.Spans.{IsSpanIn};
+ghost use Rattle.pyflow.specs.Spans.{IsReadIn};
 ghost use Rattle.pyflow.specs.Typing.{is_bound_in, is_last, line_diags, value_faults, read_faults, typing_diags};
 ghost use Rattle.pyflow.specs.Listing.{at_of};
 ghost use Rattle.pyflow.specs.Antecedents.{read_in, read_of};
@@ -16,7 +17,7 @@ use std::alloc::Global;
 /// The diagnostics of the lines of a text, in their order. Behind a `reveal_type` whose argument is
 /// Never no line has any.
 pub fn typing_diags(alloc: Global, places: &LineMap, forms: &[Form]) -> Result<List<Diag>, NoMemory>
-    requires { All (IsReadWithin (sum places.now)) forms.now }
+    requires { All (IsReadIn (sum places.now)) forms.now }
     ensures { IfOk result (λ list. list ≡ typing_diags (at_of places.now) forms.now) }
 {
     let mut walk = Walk::new(alloc, forms)?;
@@ -39,7 +40,7 @@ fn push_line(
     line: usize,
     form: &Form,
 ) -> Result<bool, NoMemory>
-    requires within { IsReadWithin (sum places.now) form.now }
+    requires within { IsReadIn (sum places.now) form.now }
     requires at { slice_get walk.old line ≡ Some form.now }
     ensures same { walk.new ≡ walk.old }
     ensures list { OnOk result (list.new ≡ list.old ++ line_diags (at_of places.now) (is_bound_in walk.old) (bound_above walk.old line) form.now) }
@@ -63,12 +64,12 @@ fn push_value(
     line: usize,
     value: &Value,
 ) -> Result<(), NoMemory>
-    requires within { IfSome (read_in value.now) (λ read. IsWithin (sum places.now) read.span) }
+    requires within { IfSome (read_in value.now) (λ read. IsSpanIn (sum places.now) read.span) }
     requires at { option_and_then read_of (slice_get walk.now line) ≡ read_in value.now }
     ensures { OnOk result (list.new ≡ list.old ++ value_faults (at_of places.now) (is_bound_in walk.now) (bound_above walk.now line) value.now) }
 {
     match value {
-        Value::Literal(_) => Ok(()),
+        Value::Literal(_) | Value::NoneValue => Ok(()),
         Value::Read(read) => push_fault(alloc, list, places, walk, line, read),
     }
 }
@@ -83,7 +84,7 @@ fn push_reveal(
     line: usize,
     read: &NameUse,
 ) -> Result<bool, NoMemory>
-    requires within { IsWithin (sum places.now) read.now.span }
+    requires within { IsSpanIn (sum places.now) read.now.span }
     requires at { slice_get walk.old line ≡ Some (Reveal read.now) }
     ensures same { walk.new ≡ walk.old }
     ensures list { OnOk result (list.new ≡ list.old ++ line_diags (at_of places.now) (is_bound_in walk.old) (bound_above walk.old line) (Reveal read.now)) }
@@ -104,7 +105,7 @@ fn push_fault(
     line: usize,
     read: &NameUse,
 ) -> Result<(), NoMemory>
-    requires within { IsWithin (sum places.now) read.now.span }
+    requires within { IsSpanIn (sum places.now) read.now.span }
     requires at { option_and_then read_of (slice_get walk.now line) ≡ Some read.now }
     ensures { OnOk result (list.new ≡ list.old ++ read_faults (at_of places.now) (is_bound_in walk.now) (bound_above walk.now line) read.now) }
 {

@@ -141,6 +141,7 @@ fn literal_type(form: &Form) -> LineType
 {
     match form {
         Form::Binding(_, Value::Literal(literal)) => LineType::Literal(literal),
+        Form::Binding(_, Value::NoneValue) => LineType::NoneValue,
         _ => unreachable!(),
     }
 }

@@ -1,1 +1,14 @@
-pub mod TypeText
+pub mod Asked
+pub mod Facts
+pub mod KeyOrder
+pub mod LiteralText
+pub mod Order
+pub mod Pieces
+pub mod Sets
+pub mod Plain
+pub mod Rows
+pub mod SortKey
+pub mod Text
+pub mod Types
+pub mod View
+pub mod Widen

@@ -1,13 +1,37 @@
-//! Types: finite sets of atoms, and their text.
+//! Types as finite sets of atoms.
 //!
-//! In one sentence: a type is seen as the list of its atoms, and `type_text` gives the text of that
-//! set, the definition of `specs/TypeText.antt`. Below stands `py_base` (lists and texts).
-//!
-//! This is the first stage: the atoms are the literals of integers and Unknown.
+//! In one sentence: a type is a finite set of atoms, and each call of `Type` gives just the set that
+//! its contract names, by the order of atoms of `specs/Order.antt` and the sets of `specs/Types.antt`.
+//! `type_text` gives the text of a type by `specs/Text.antt`, from what a view means.
+//! Below stand the words of `py_base`, and lists that may hold the type that holds them.
 #![tactic(auto)]
 
 pub mod atom;
-pub mod type_set;
+pub mod classes;
+mod copy;
+pub mod facts;
+pub mod laws;
+pub mod literal;
+mod literal_text;
+pub mod narrowing;
+pub mod order;
+pub mod piece;
+mod pieces;
+pub mod plain;
+pub mod rows;
+pub mod show;
+mod shown;
+#[cfg(test)]
+mod tests;
+pub mod text;
+pub mod types;
+mod union;
+pub mod view;
+pub mod widen;
+mod words;
 
-pub use atom::{Atom, Literal};
-pub use type_set::{Type, type_text};
+pub use atom::{Atom, Slots};
+pub use literal::Literal;
+pub use narrowing::Test;
+pub use rows::{BuiltinTable, Row, RowResult};
+pub use types::Type;

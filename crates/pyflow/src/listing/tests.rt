@@ -16,7 +16,7 @@ fn shown(alloc: Global, list: &List<Diag>) -> Result<String, AllocError> {
     Ok(out)
 }
 
-const TEXTS: [(&str, &str); 20] = [
+const TEXTS: [(&str, &str); 48] = [
     ("", ""),
     (
         "x = 1\ny = x\nreveal_type(y)\n",
@@ -90,6 +90,90 @@ const TEXTS: [(&str, &str); 20] = [
     ),
     ("reveal_type(1)", "0 0 0 14 syntax Statement is not valid\n"),
     ("x = 1\n x", "1 1 1 2 syntax Statement is not valid\n"),
+    // a token fault has its own text, before the form of its line
+    ("x = \"a", "0 0 0 6 syntax String is not closed\n"),
+    ("x = 1$", "0 0 0 6 syntax Invalid character in source\n"),
+    (" x = 1$", "0 1 0 7 syntax Invalid character in source\n"),
+    ("x = (\n", "0 0 1 0 syntax Bracket is not closed\n"),
+    (
+        "x = 170141183460469231731687303715884105728",
+        "0 0 0 43 limit Integer is wider than 128 bits\n",
+    ),
+    // the first faulty line counts, whatever its fault
+    (
+        "y = = 2\nx = \"a",
+        "0 0 0 7 syntax Statement is not valid\n",
+    ),
+    (
+        "x = $\ny = = 2",
+        "0 0 0 5 syntax Invalid character in source\n",
+    ),
+    // the literals
+    (
+        "x = 170141183460469231731687303715884105727\nreveal_type(x)",
+        "1 12 1 13 reveal-type Type is \"Literal[170141183460469231731687303715884105727]\"\n",
+    ),
+    (
+        "x = 0x_1F\nreveal_type(x)",
+        "1 12 1 13 reveal-type Type is \"Literal[31]\"\n",
+    ),
+    (
+        "x = 0b1_0\nreveal_type(x)",
+        "1 12 1 13 reveal-type Type is \"Literal[2]\"\n",
+    ),
+    (
+        "x = None\nreveal_type(x)",
+        "1 12 1 13 reveal-type Type is \"None\"\n",
+    ),
+    (
+        "x = True\nreveal_type(x)",
+        "1 12 1 13 reveal-type Type is \"Literal[True]\"\n",
+    ),
+    (
+        "x = False\ny = x\nreveal_type(y)",
+        "2 12 2 13 reveal-type Type is \"Literal[False]\"\n",
+    ),
+    (
+        "x = 'it \"is\"'\nreveal_type(x)",
+        "1 12 1 13 reveal-type Type is \"Literal[\"it \\\"is\\\"\"]\"\n",
+    ),
+    (
+        "x = ''\nreveal_type(x)",
+        "1 12 1 13 reveal-type Type is \"Literal[\"\"]\"\n",
+    ),
+    (
+        "x = \"é\"\nreveal_type(x)",
+        "1 12 1 13 reveal-type Type is \"Literal[\"é\"]\"\n",
+    ),
+    (
+        "x = \"012345678901234567890123456789012345678901234567890\"\nreveal_type(x)",
+        "1 12 1 13 reveal-type Type is \"Literal[\"01234567890123456789012345678901234567890123456789...\"]\"\n",
+    ),
+    // strings that are none of this stage's, and other values
+    ("x = \"a\\n\"", "0 0 0 9 syntax Statement is not valid\n"),
+    (
+        "x = \"\"\"a\"\"\"",
+        "0 0 0 11 syntax Statement is not valid\n",
+    ),
+    ("x = r\"a\"", "0 0 0 8 syntax Statement is not valid\n"),
+    ("x = f\"a\"", "0 0 0 8 syntax Statement is not valid\n"),
+    (
+        "x = \"a\" \"b\"",
+        "0 0 0 11 syntax Statement is not valid\n",
+    ),
+    ("x = 1.0", "0 0 0 7 syntax Statement is not valid\n"),
+    ("x = 1; y = 2", "0 0 0 12 syntax Statement is not valid\n"),
+    ("None = 1", "0 0 0 8 syntax Statement is not valid\n"),
+    // lines that are joined, and a byte order mark
+    (
+        "x = \\\n1\nreveal_type(\nx)",
+        "3 0 3 1 reveal-type Type is \"Literal[1]\"\n",
+    ),
+    ("x = (1\n)", "0 0 1 1 syntax Statement is not valid\n"),
+    (
+        "\u{feff}x = 1 # one\nreveal_type(x)",
+        "1 12 1 13 reveal-type Type is \"Literal[1]\"\n",
+    ),
 ];
 
 #[test]
@@ -105,20 +189,34 @@ fn texts(rt: HostRuntime) -> Result<(), Fail> {
     Ok(())
 }
 
-fn blanks(alloc: Global, len: usize) -> Result<String, AllocError> {
+fn repeated(alloc: Global, piece: &str, count: usize) -> Result<String, AllocError> {
     let mut text = String::new(alloc);
-    for _ in 0..len {
-        text.push_str(" ")?;
+    for _ in 0..count {
+        text.push_str(piece)?;
     }
     Ok(text)
 }
 
 #[test]
+fn deep_texts(rt: HostRuntime) -> Result<(), Fail> {
+    let found = list_text(rt.alloc(), repeated(rt.alloc(), "(", 65)?.as_str())?;
+    let found = shown(rt.alloc(), &found)?;
+    assert_eq!(rt;
+        found.as_str(),
+        "0 0 0 65 limit Nesting is deeper than 64\n"
+    );
+    let found = list_text(rt.alloc(), repeated(rt.alloc(), "(", 64)?.as_str())?;
+    let found = shown(rt.alloc(), &found)?;
+    assert_eq!(rt; found.as_str(), "0 0 0 64 syntax Bracket is not closed\n");
+    Ok(())
+}
+
+#[test]
 fn long_texts(rt: HostRuntime) -> Result<(), Fail> {
-    let long = blanks(rt.alloc(), 524_288)?;
+    let long = repeated(rt.alloc(), " ", 524_288)?;
     let found = list_text(rt.alloc(), long.as_str())?;
     assert!(rt; found.is_empty());
-    let too_long = blanks(rt.alloc(), 524_289)?;
+    let too_long = repeated(rt.alloc(), " ", 524_289)?;
     let found = list_text(rt.alloc(), too_long.as_str())?;
     let found = shown(rt.alloc(), &found)?;
     assert_eq!(rt;

@@ -1,6 +1,7 @@
 use Rattle.std.proofs.Common.{◌++◌, [], ◌∷◌, sym, ap, ◌∙◌, Bool, is_none, Some, option_map, arith}
-use Rattle.py_tokens.specs.declared.line.LogicalLine.{LogicalLine}
+use Rattle.py_tokens.specs.declared.lines.LogicalLine.{LogicalLine}
 use Rattle.pyflow.specs.Forms.{form_of}
+use Rattle.pyflow.specs.Reading.{fault_at}
 use Rattle.pyflow.proofs.ReadingLaws.{find-stop, find-go_on, filter_map-more}
 use Rattle.pyflow.proofs.listing.read_lines.Goals as goal
 
@@ -10,8 +11,8 @@ has_no_form line = is_none (form_of line)
 pub returns-in-None : goal.returns-in-None
 returns-in-None c =
     let here = ap has_no_form (sym c.line-item.is) ∙ ap is_none (sym c.in_ok-form.ensures ∙ c.in-None.is) in
-    ap (option_map (λ line. line.span)) (find-stop has_no_form c.args.lines.now c.loop-line.line-index c.line-item.result (omega arith) c.loop-line.invariant.0 here)
-    ∙ ap (λ line. Some line.span) (sym c.line-item.is)
+    ap (option_map fault_at) (find-stop has_no_form c.args.lines.now c.loop-line.line-index c.line-item.result (omega arith) c.loop-line.invariant.0 here)
+    ∙ ap (λ line. Some (fault_at line)) (sym c.line-item.is)
 
 pub loop-line-preserved : goal.loop-line-preserved
 loop-line-preserved c =

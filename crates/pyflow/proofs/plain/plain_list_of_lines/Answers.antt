@@ -2,7 +2,7 @@ use Rattle.std.proofs.Common.{subst, ◌∙◌, sum, filter_map}
 use Rattle.std.proofs.lemmas.List.Elements.{All-same}
 use Rattle.pyflow.specs.Forms.{form_of}
 use Rattle.pyflow.specs.Reading.{IsReading}
-use Rattle.pyflow.specs.Spans.{IsReadWithin}
+use Rattle.pyflow.specs.Spans.{IsReadIn}
 use Rattle.pyflow.proofs.SpanLaws.{forms-within, first-within}
 use Rattle.pyflow.proofs.plain.plain_list_of_lines.Goals as goal
 
@@ -10,10 +10,10 @@ pub plain_diags-requires : goal.plain_diags-requires
 plain_diags-requires c =
     let lines = c.args.lines.now in
     let reading = subst (IsReading lines) c.in-Valid.is c.in_ok-forms.ensures in
-    All-same (IsReadWithin (sum c.args.places.now)) c.as_slice.result.now (filter_map form_of lines) (c.as_slice.ensures ∙ reading.1) (forms-within (sum c.args.places.now) lines c.requires)
+    All-same (IsReadIn (sum c.args.places.now)) c.as_slice.result.now (filter_map form_of lines) (c.as_slice.ensures ∙ reading.1) (forms-within (sum c.args.places.now) lines c.requires)
 
-pub not_valid-requires : goal.not_valid-requires
-not_valid-requires c =
+pub line_fault-requires : goal.line_fault-requires
+line_fault-requires c =
     let lines = c.args.lines.now in
-    let reading = subst (IsReading lines) c.in-NotValid.is c.in_ok-forms.ensures in
-    first-within (sum c.args.places.now) lines c.in-NotValid.span c.requires reading
+    let reading = subst (IsReading lines) c.in-Faulty.is c.in_ok-forms.ensures in
+    first-within (sum c.args.places.now) lines c.in-Faulty.span c.in-Faulty.fault c.requires reading

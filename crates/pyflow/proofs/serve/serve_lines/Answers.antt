@@ -1,5 +1,6 @@
 use Rattle.std.proofs.Common.{◌≡◌, ◌∙◌, sym, inl, inr, refl, arith, Ok, None, false, true}
 use Rattle.pyflow.specs.Journal.{is_end_line}
+use Rattle.pyflow.proofs.Ends.{marks}
 use Rattle.pyflow.proofs.Sessions.{begins, not_at_end, hands_line, goes_on, stops_at_end, stops_read_fault, stops_too_long, stops_reading, stops_ended, stops_within}
 use Rattle.pyflow.proofs.serve.serve_lines.Goals as goal
 
@@ -8,7 +9,7 @@ lines-init g c = record {
   so_far = rw (c.requires.journal, c.requires.opened) (begins c.args.reader.now _ _ c.requires.waiting c.requires.taken c.requires.most c.requires.at_end);
   within = omega (arith, c.requires.taken);
   fault = c.requires.fault;
-  at_end = λ fresh. fresh ∙ sym c.requires.at_end;
+  at_end = inl (refl, c.requires.at_end);
   reads = refl;
   writes = refl;
 }
@@ -67,7 +68,28 @@ lines-preserved g c =
           (c.in-Ok-false.ensures.opened line.bytes line.is);
       within = c.next_line.ensures.within;
       fault = c.in-Ok-Some.ensures.fault;
-      at_end = λ fresh. c.next_line.ensures.ends (c.lines.invariant.at_end fresh);
+      at_end = marks g.S.Source.ended c.args.source.now _ _ _ _ c.lines.invariant.at_end c.next_line.ensures.ends;
       reads = c.next_line.ensures.quiet (λ e. cc (c.in-Ok-Some.is)) ∙ c.lines.invariant.reads;
       writes = c.take_line.ensures.quiet (λ e. cc (c.in-Ok-false.is)) ∙ c.lines.invariant.writes;
     }
+
+pub returns-in-Ok-None-clause-at_end : goal.returns-in-Ok-None-clause-at_end
+returns-in-Ok-None-clause-at_end g c = marks g.S.Source.ended c.args.source.now _ _ _ _ c.lines.invariant.at_end c.next_line.ensures.ends
+
+pub returns-in-Err-ReadFault-clause-at_end : goal.returns-in-Err-ReadFault-clause-at_end
+returns-in-Err-ReadFault-clause-at_end g c = marks g.S.Source.ended c.args.source.now _ _ _ _ c.lines.invariant.at_end c.next_line.ensures.ends
+
+pub returns-in-Err-TooLong-clause-at_end : goal.returns-in-Err-TooLong-clause-at_end
+returns-in-Err-TooLong-clause-at_end g c = marks g.S.Source.ended c.args.source.now _ _ _ _ c.lines.invariant.at_end c.next_line.ensures.ends
+
+pub returns-in-Err-Memory-clause-at_end : goal.returns-in-Err-Memory-clause-at_end
+returns-in-Err-Memory-clause-at_end g c = marks g.S.Source.ended c.args.source.now _ _ _ _ c.lines.invariant.at_end c.next_line.ensures.ends
+
+pub returns-in-Ok-true-clause-at_end : goal.returns-in-Ok-true-clause-at_end
+returns-in-Ok-true-clause-at_end g c = marks g.S.Source.ended c.args.source.now _ _ _ _ c.lines.invariant.at_end c.next_line.ensures.ends
+
+pub returns-in-Err-WriteFault-clause-at_end : goal.returns-in-Err-WriteFault-clause-at_end
+returns-in-Err-WriteFault-clause-at_end g c = marks g.S.Source.ended c.args.source.now _ _ _ _ c.lines.invariant.at_end c.next_line.ensures.ends
+
+pub returns-in-Err-Memory-take_line-clause-at_end : goal.returns-in-Err-Memory-take_line-clause-at_end
+returns-in-Err-Memory-take_line-clause-at_end g c = marks g.S.Source.ended c.args.source.now _ _ _ _ c.lines.invariant.at_end c.next_line.ensures.ends

@@ -1,4 +1,5 @@
-use Rattle.std.proofs.Common.{◌≡◌, ◌≤◌, false, None}
+use Rattle.std.proofs.Common.{◌≡◌, ◌≤◌, None}
+use Rattle.pyflow.specs.Served.{IsMarked}
 use Rattle.pyflow.proofs.Sessions.{SoFar}
 use Rattle.pyflow.proofs.serve.serve_lines.Given as goal
 
@@ -7,7 +8,7 @@ invariant-lines g l = record {
   so_far : SoFar l.number l.reader l.session.journal l.session.opened (g.S.Source.left l.fn.source) (g.S.Source.left l.source) (g.K.Sink.written l.fn.sink) (g.K.Sink.written l.sink);
   within : l.reader.taken ≤ l.reader.most;
   fault : l.reader.fault ≡ None;
-  at_end : g.S.Source.ended l.fn.source ≡ false → g.S.Source.ended l.source ≡ l.reader.at_end;
+  at_end : IsMarked (g.S.Source.ended l.fn.source) (g.S.Source.ended l.source) l.reader.at_end;
   reads : g.S.Source.faults l.source ≡ g.S.Source.faults l.fn.source;
   writes : g.K.Sink.faults l.sink ≡ g.K.Sink.faults l.fn.sink;
 }

@@ -1,4 +1,4 @@
-use Rattle.std.proofs.Common.{refl}
+use Rattle.std.proofs.Common.{inr, refl}
 use Rattle.pyflow.specs.declared.status.Status.TheVariants.{NoMemory}
 use Rattle.pyflow.proofs.Sessions.{never_began}
 use Rattle.pyflow.proofs.serve.serve_serial.Goals as goal
@@ -8,6 +8,6 @@ returns-in_default-clause-reports g c = record {
   status = NoMemory;
   code_is = c.code.ensures;
   at_end = g.S.Source.ended c.args.source.now;
-  at_end_is = λ _. refl;
+  at_end_is = inr refl;
   account = never_began _ _ _ _ c.new-session.ensures.journal;
 }

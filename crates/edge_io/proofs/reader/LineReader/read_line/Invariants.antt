@@ -1,4 +1,4 @@
-use Rattle.std.proofs.Common.{◌≡◌, ◌-◌, true}
+use Rattle.std.proofs.Common.{◌≡◌, ◌⊎◌, ◌-◌, true}
 use Rattle.edge_io.specs.Stream.{IsUsedUp}
 use Rattle.edge_io.proofs.Readings.{SoFar}
 use Rattle.edge_io.proofs.reader.LineReader.read_line.Given as goal
@@ -6,7 +6,7 @@ use Rattle.edge_io.proofs.reader.LineReader.read_line.Given as goal
 abbrev pub invariant-loop-moved : goal.invariant-loop-moved
 invariant-loop-moved g l = record {
   far : SoFar l.line l.initial.self l.self (g.S.Source.left l.initial.source) (g.S.Source.left l.source) l.initial.source l.source;
-  ends : g.S.Source.ended l.initial.source ≡ l.initial.self.at_end → g.S.Source.ended l.source ≡ l.self.at_end;
+  ends : ((l.source ≡ l.initial.source) × (l.self.at_end ≡ l.initial.self.at_end)) ⊎ (g.S.Source.ended l.source ≡ l.self.at_end);
   used_up : (l.initial.self.at_end ≡ true → IsUsedUp (g.S.Source.left l.initial.source)) → l.self.at_end ≡ true → IsUsedUp (g.S.Source.left l.source);
   quiet : g.S.Source.faults l.source ≡ g.S.Source.faults l.initial.source;
 }

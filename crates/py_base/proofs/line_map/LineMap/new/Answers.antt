@@ -1,5 +1,7 @@
-use Rattle.std.proofs.Common.{arith}
+use Rattle.std.proofs.Common.{arith, chars}
+use Rattle.std.proofs.lemmas.List.{length-map}
 use Rattle.std.specs.Str.Iter.{chars_rest}
+use Rattle.py_base.proofs.LineLaws.{some_line, sum-lengths}
 use Rattle.py_base.proofs.ScanLaws.{scanned_none, scanned_line, scanned_character, count_fits, scanned_table, scanned_lengths}
 use Rattle.py_base.proofs.line_map.LineMap.new.Goals as goal
 
@@ -23,4 +25,10 @@ pub invariant_of-result : goal.invariant_of-result
 invariant_of-result c = scanned_table c.args.text.now c.loop-c.starts.items (chars_rest c.loop-c.rest) c.loop-c.count c.utf8.text c.requires c.loop-c.invariant.2 c.in_default.ensures.steps.0.0
 
 pub returns : goal.returns
-returns c = scanned_lengths c.args.text.now c.loop-c.starts.items (chars_rest c.loop-c.rest) c.loop-c.count c.loop-c.invariant.2 c.in_default.ensures.steps.0.0
+returns c =
+    let lines = scanned_lengths c.args.text.now c.loop-c.starts.items (chars_rest c.loop-c.rest) c.loop-c.count c.loop-c.invariant.2 c.in_default.ensures.steps.0.0 in
+    record {
+      lines = lines;
+      some = rw (lines, length-map) (some_line (chars c.args.text.now));
+      all = rw lines (sum-lengths (chars c.args.text.now));
+    }

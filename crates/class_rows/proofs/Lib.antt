@@ -1,0 +1,12 @@
+pub mod Growing
+pub mod Keeping
+pub mod KnownBases
+pub mod BuiltinRows
+pub mod Counting
+pub mod Leads
+pub mod Merging
+pub mod Orders
+pub mod Picking
+pub mod SingleBase
+pub mod Symbols
+pub mod Tables

@@ -1,0 +1,15 @@
+pub mod Asking
+pub mod KeyLemmas
+pub mod KeyOf
+pub mod KeyTells
+pub mod Merging
+pub mod OrderLaws
+pub mod OutOf
+pub mod PieceLemmas
+pub mod SetLaws
+pub mod SlotsLemmas
+pub mod SmallTexts
+pub mod Streaming
+pub mod TextLemmas
+pub mod TypeLaws
+pub mod WidenLemmas
