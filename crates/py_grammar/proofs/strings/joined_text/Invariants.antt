@@ -1,0 +1,9 @@
+use Rattle.std.proofs.Common.{◌≡◌, Some, drop}
+use Rattle.std.specs.Prelude.{string_bytes}
+use Rattle.py_tokens.specs.Literals.{append_known}
+use Rattle.py_grammar.specs.Meaning.{text_in, joined_by}
+use Rattle.py_grammar.specs.Found.{item_words}
+use Rattle.py_grammar.proofs.strings.joined_text.Given as goal
+
+abbrev pub invariant-loop-item : goal.invariant-loop-item
+invariant-loop-item l = append_known (Some (string_bytes l.value)) (joined_by text_in (item_words (drop l.item-index l.items))) ≡ joined_by text_in (item_words l.items)

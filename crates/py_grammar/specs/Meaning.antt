@@ -1,0 +1,282 @@
+-- The tree of a reading: what is kept of the tokens. A node has the kind of its form, the span from its first to its last token, what
+-- its words say, and its parts; a last comma and the colons of a slice are leaves of their own; brackets and other marks leave nothing
+-- but their node (Python 3.12 language reference, section 6; what is kept is this project's own).
+use Rattle.std.specs.Prelude.{ℕ, ◌==◌, Bool, true, false, is_some, fold, find, if◌then◌else◌, ℤ, Option, Some, None, List, [], ◌∷◌, ◌++◌, codes}
+use Rattle.py_base.specs.declared.span.Span.{Span}
+use Rattle.py_base.specs.declared.node.NodeKind.{NodeKind}
+use Rattle.py_base.specs.declared.node.NodeKind.TheVariants as kinds
+use Rattle.py_base.specs.declared.node.Op.{Op}
+use Rattle.py_base.specs.declared.node.Op.TheVariants as ops
+use Rattle.py_base.specs.Tree.{Said, nothing, name, int, op, chars as of_chars, bytes as of_bytes, SyntaxTree, SyntaxTrees, node, no_parts, with_part, span_of}
+use Rattle.py_tokens.specs.declared.lines.Token.{Token}
+use Rattle.py_tokens.specs.Ints.{int_of}
+use Rattle.py_tokens.specs.declared.literals.StringValue.{StringValue}
+use Rattle.py_tokens.specs.declared.literals.StringValue.TheVariants as values
+use Rattle.py_tokens.specs.Literals.{append_known, string_value}
+use Rattle.std.specs.Str.{chars}
+use Rattle.py_grammar.specs.declared.words.Form.{Form}
+use Rattle.py_grammar.specs.declared.words.Form.TheVariants as forms
+use Rattle.py_grammar.specs.declared.words.Terminal.{Terminal}
+use Rattle.py_grammar.specs.declared.words.Terminal.TheVariants as terminals
+use Rattle.py_grammar.specs.Table.{number}
+use Rattle.py_grammar.specs.Terminal.{terminal, lookup, first_of}
+use Rattle.py_grammar.specs.Reading.{Reading, opened, joined, Parts, no_more, word, part}
+
+-- what stands side by side in a node: tokens and the trees of parts
+pub data Piece : Type 0 where
+  of_word : Token → Piece
+  of_tree : SyntaxTree → Piece
+
+abbrev pub words_of : List Piece → List Token
+words_of [] = []
+words_of (of_word w ∷ xs) = w ∷ words_of xs
+words_of (of_tree t ∷ xs) = words_of xs
+
+abbrev pub is_word : Terminal → Token → Bool
+is_word k w = number (terminal w) == number k
+
+-- whether one of the words is this terminal
+abbrev pub has_word : Terminal → List Token → Bool
+has_word k ws = is_some (find (is_word k) ws)
+
+-- The kinds: that of the form, and two that hang on a further word.
+abbrev pub kind_of_form : Form → NodeKind
+kind_of_form forms.Entries = kinds.Entries
+kind_of_form forms.Named = kinds.Named
+kind_of_form forms.Lambda = kinds.Lambda
+kind_of_form forms.Conditional = kinds.Conditional
+kind_of_form forms.Or = kinds.Or
+kind_of_form forms.And = kinds.And
+kind_of_form forms.Not = kinds.Not
+kind_of_form forms.Comparison = kinds.Comparison
+kind_of_form forms.BitOr = kinds.Binary
+kind_of_form forms.BitXor = kinds.Binary
+kind_of_form forms.BitAnd = kinds.Binary
+kind_of_form forms.Shift = kinds.Binary
+kind_of_form forms.Sum = kinds.Binary
+kind_of_form forms.Product = kinds.Binary
+kind_of_form forms.Unary = kinds.Unary
+kind_of_form forms.Power = kinds.Binary
+kind_of_form forms.Await = kinds.Await
+kind_of_form forms.Attribute = kinds.Attribute
+kind_of_form forms.Call = kinds.Call
+kind_of_form forms.Subscript = kinds.Subscript
+kind_of_form forms.Name = kinds.Name
+kind_of_form forms.Int = kinds.Int
+kind_of_form forms.Float = kinds.Float
+kind_of_form forms.Imaginary = kinds.Imaginary
+kind_of_form forms.Strings = kinds.Strings
+kind_of_form forms.BytesStrings = kinds.BytesStrings
+kind_of_form forms.NoneValue = kinds.NoneValue
+kind_of_form forms.TrueValue = kinds.TrueValue
+kind_of_form forms.FalseValue = kinds.FalseValue
+kind_of_form forms.Ellipsis = kinds.Ellipsis
+kind_of_form forms.Round = kinds.Round
+kind_of_form forms.Square = kinds.Square
+kind_of_form forms.Curly = kinds.Curly
+kind_of_form forms.Starred = kinds.Starred
+kind_of_form forms.DoubleStarred = kinds.DoubleStarred
+kind_of_form forms.StarArgument = kinds.Starred
+kind_of_form forms.DoubleStarArgument = kinds.DoubleStarred
+kind_of_form forms.Keyword = kinds.Keyword
+kind_of_form forms.Item = kinds.Item
+kind_of_form forms.ComprehensionFor = kinds.ComprehensionFor
+kind_of_form forms.AsyncComprehensionFor = kinds.AsyncComprehensionFor
+kind_of_form forms.ComprehensionIf = kinds.ComprehensionIf
+kind_of_form forms.Targets = kinds.Targets
+kind_of_form forms.Slice = kinds.Slice
+kind_of_form forms.SliceFrom = kinds.Slice
+kind_of_form forms.Link = kinds.Link
+kind_of_form forms.Parameter = kinds.Parameter
+kind_of_form forms.SlashParameter = kinds.Slash
+kind_of_form forms.StarParameter = kinds.StarParameter
+kind_of_form forms.DoubleStarParameter = kinds.DoubleStarParameter
+kind_of_form forms.Yield = kinds.Yield
+kind_of_form forms.Field = kinds.Field
+kind_of_form forms.Format = kinds.Format
+
+abbrev pub kind_for : Form → List Token → NodeKind
+kind_for forms.Yield ws = if has_word terminals.From ws then kinds.YieldFrom else kinds.Yield
+kind_for forms.StarParameter ws = if has_word terminals.Name ws then kinds.StarParameter else kinds.BareStar
+kind_for f ws = kind_of_form f
+
+-- The span: from the first to the last of the tokens.
+abbrev pub piece_span : Piece → Span
+piece_span (of_word w) = w.span
+piece_span (of_tree t) = span_of t
+
+abbrev pub first_from : List Piece → ℕ
+first_from [] = 0
+first_from (x ∷ xs) = (piece_span x).from
+
+abbrev pub last_to : List Piece → ℕ
+last_to xs = fold (λ end x. (piece_span x).to) 0 xs
+
+-- The word: a name, the value of an integer or of strings, or an operator.
+abbrev pub named : Option Token → Said
+named None = nothing
+named (Some w) = name w.text
+
+abbrev pub name_in : List Token → Said
+name_in ws = named (find (is_word terminals.Name) ws)
+
+-- the first of the words
+abbrev pub first_word : List Token → Option Token
+first_word ws = find (λ w. true) ws
+
+abbrev pub valued : Option ℤ → Said
+valued None = nothing
+valued (Some n) = int n
+
+abbrev pub value_of : Option Token → Said
+value_of None = nothing
+value_of (Some w) = valued (int_of w.text)
+
+-- the value of a literal of characters, where it is known
+abbrev pub text_value_of : Option StringValue → Option (List ℕ)
+text_value_of (Some (values.Text cs)) = Some cs
+text_value_of found = None
+
+unfoldable pub text_in : Token → Option (List ℕ)
+text_in w = text_value_of (string_value (chars w.text))
+
+-- the value of a literal of bytes, where it is known
+abbrev pub bytes_value_of : Option StringValue → Option (List ℕ)
+bytes_value_of (Some (values.Bytes bs)) = Some bs
+bytes_value_of found = None
+
+unfoldable pub bytes_in : Token → Option (List ℕ)
+bytes_in w = bytes_value_of (string_value (chars w.text))
+
+-- what literals side by side are together, where each is known; an f-string's pieces never are
+abbrev pub joined_by : (Token → Option (List ℕ)) → List Token → Option (List ℕ)
+joined_by f [] = Some []
+joined_by f (w ∷ ws) = append_known (f w) (joined_by f ws)
+
+abbrev pub said_text : Option (List ℕ) → Said
+said_text None = nothing
+said_text (Some cs) = of_chars cs
+
+abbrev pub said_bytes : Option (List ℕ) → Said
+said_bytes None = nothing
+said_bytes (Some bs) = of_bytes bs
+
+abbrev pub arithmetic_ops : List (List ℕ × Op)
+arithmetic_ops =
+    (codes "+", ops.Plus) ∷ (codes "-", ops.Minus) ∷ (codes "*", ops.Star) ∷ (codes "/", ops.Slash)
+    ∷ (codes "%", ops.Percent) ∷ (codes "@", ops.At) ∷ (codes "//", ops.DoubleSlash) ∷ (codes "**", ops.DoubleStar) ∷ []
+
+abbrev pub bitwise_ops : List (List ℕ × Op)
+bitwise_ops =
+    (codes "&", ops.BitAnd) ∷ (codes "|", ops.BitOr) ∷ (codes "^", ops.BitXor) ∷ (codes "~", ops.Tilde)
+    ∷ (codes "<<", ops.ShiftLeft) ∷ (codes ">>", ops.ShiftRight) ∷ []
+
+abbrev pub comparison_ops : List (List ℕ × Op)
+comparison_ops =
+    (codes "<", ops.Less) ∷ (codes ">", ops.Greater) ∷ (codes "<=", ops.LessEqual) ∷ (codes ">=", ops.GreaterEqual)
+    ∷ (codes "==", ops.Equal) ∷ (codes "!=", ops.NotEqual) ∷ []
+
+abbrev pub conversions : List (List ℕ × Op)
+conversions = (codes "!r", ops.ToRepr) ∷ (codes "!s", ops.ToStr) ∷ (codes "!a", ops.ToAscii) ∷ []
+
+abbrev pub operated : Option Op → Said
+operated None = nothing
+operated (Some o) = op o
+
+abbrev pub op_of_text : List ℕ → Option Op
+op_of_text text = first_of (lookup arithmetic_ops text) (first_of (lookup comparison_ops text) (lookup bitwise_ops text))
+
+abbrev pub spelled_op : Option Token → Option Op
+spelled_op None = None
+spelled_op (Some w) = op_of_text w.text
+
+-- the operator that an operator's words spell together
+abbrev pub op_of_words : List Token → Option Op
+op_of_words ws =
+    if has_word terminals.Is ws then (if has_word terminals.Not ws then Some ops.IsNot else Some ops.Is)
+    else (if has_word terminals.Not ws then Some ops.NotIn else (if has_word terminals.In ws then Some ops.In else spelled_op (first_word ws)))
+
+abbrev pub converted : Option Token → Said
+converted None = nothing
+converted (Some w) = operated (lookup conversions w.text)
+
+abbrev pub conversion_in : List Token → Said
+conversion_in ws = converted (find (is_word terminals.FConversion) ws)
+
+-- the forms whose word is a name
+abbrev pub takes_name : Form → Bool
+takes_name forms.Name = true
+takes_name forms.Parameter = true
+takes_name forms.StarParameter = true
+takes_name forms.DoubleStarParameter = true
+takes_name forms.Attribute = true
+takes_name _ = false
+
+-- the forms whose word is an operator
+abbrev pub takes_op : Form → Bool
+takes_op forms.Comparison = true
+takes_op forms.Link = true
+takes_op forms.BitOr = true
+takes_op forms.BitXor = true
+takes_op forms.BitAnd = true
+takes_op forms.Shift = true
+takes_op forms.Sum = true
+takes_op forms.Product = true
+takes_op forms.Unary = true
+takes_op forms.Power = true
+takes_op _ = false
+
+abbrev pub said_plainly : Form → List Token → Said
+said_plainly forms.Int ws = value_of (first_word ws)
+said_plainly forms.Field ws = conversion_in ws
+said_plainly forms.Strings ws = said_text (joined_by text_in ws)
+said_plainly forms.BytesStrings ws = said_bytes (joined_by bytes_in ws)
+said_plainly f ws = if takes_op f then operated (op_of_words ws) else nothing
+
+-- WHAT THE WORD OF A NODE SAYS
+abbrev pub said_for : Form → List Token → Said
+said_for f ws = if takes_name f then name_in ws else said_plainly f ws
+
+-- The parts: those of the reading, and leaves for a last comma and for the colons of a slice.
+abbrev pub mark_for : Form → Terminal → Bool → Option NodeKind
+mark_for f terminals.Comma false = Some kinds.LastComma
+mark_for forms.Slice terminals.Colon b = Some kinds.Colon
+mark_for forms.SliceFrom terminals.Colon b = Some kinds.Colon
+mark_for f k b = None
+
+abbrev pub is_tree_next : List Piece → Bool
+is_tree_next [] = false
+is_tree_next (of_word w ∷ xs) = false
+is_tree_next (of_tree t ∷ xs) = true
+
+abbrev pub marked : Option NodeKind → Token → List SyntaxTree
+marked None w = []
+marked (Some k) w = node k w.span nothing no_parts ∷ []
+
+-- what is kept of a piece before another one
+abbrev pub kept_one : Form → Piece → Bool → List SyntaxTree
+kept_one f (of_word w) b = marked (mark_for f (terminal w) b) w
+kept_one f (of_tree t) b = t ∷ []
+
+abbrev pub kept : Form → List Piece → List SyntaxTree
+kept f [] = []
+kept f (x ∷ xs) = kept_one f x (is_tree_next xs) ++ kept f xs
+
+abbrev pub listed : List SyntaxTree → SyntaxTrees
+listed [] = no_parts
+listed (t ∷ ts) = with_part t (listed ts)
+
+-- the node of a form over its tokens and the trees of its parts
+abbrev pub assembled : Form → List Piece → SyntaxTree
+assembled f xs = node (kind_for f (words_of xs)) (record { from = first_from xs; to = last_to xs }) (said_for f (words_of xs)) (listed (kept f xs))
+
+-- THE TREE OF A READING
+abbrev mutual
+  pub tree_of_reading : Reading → SyntaxTree
+  tree_of_reading (opened f w ps) = assembled f (of_word w ∷ pieces ps)
+  tree_of_reading (joined f t w ps) = assembled f (of_tree (tree_of_reading t) ∷ of_word w ∷ pieces ps)
+
+  pub pieces : Parts → List Piece
+  pieces no_more = []
+  pieces (word w ps) = of_word w ∷ pieces ps
+  pieces (part t ps) = of_tree (tree_of_reading t) ∷ pieces ps

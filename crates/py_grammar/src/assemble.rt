@@ -1,0 +1,231 @@
+//! Nodes over what was read.
+ghost use Rattle.std.specs.Prelude.{◌≡◌, ◌<◌, ◌∷◌, ◌++◌, ◌+◌, ◌&&◌, [], suc, min, max, map, length, fold, IfOk, OnOk};
+ghost use Rattle.std.specs.List.{list_all, list_any};
+ghost use Rattle.py_grammar.specs.Proper.{is_field};
+ghost use Rattle.py_base.specs.Tree.{Arena, said, node, tree_of, IsNamed, IsLinked, Grows};
+ghost use Rattle.py_grammar.specs.Meaning.{kept_one, kept, listed, assembled};
+ghost use Rattle.py_grammar.specs.Found.{IsKnown, AllKnown, AreKnown, piece_at, pieces_at, trees_at, is_part_next, parts_proper_over, proper_over, target_over, colon_over, highest, capped, leaf_of, Extends};
+
+use crate::found::{Found, Item};
+use crate::order::{
+    does_bind_first, does_enclose, does_fit, is_field, is_lambda, is_name_like, is_of_targets,
+};
+use crate::terminal::terminal_for;
+use crate::word::{is_part_first, kind_of, mark_of, span_over, word_for};
+use crate::words::Form;
+use py_base::{List, NoMemory, Node, NodeId, NodeKind, Span, Tree, Word};
+use py_tokens::Token;
+use std::alloc::Global;
+
+fn are_all_proper(parts: &[Found]) -> bool
+    ensures { result ≡ list_all (λ x. x.proper) parts.now }
+{
+    parts.iter().all(|part| part.proper)
+}
+
+fn are_all_targets(parts: &[Found]) -> bool
+    ensures { result ≡ list_all (λ x. x.target) parts.now }
+{
+    parts.iter().all(|part| part.target)
+}
+
+fn have_colon(parts: &[Found]) -> bool
+    ensures { result ≡ list_any (λ x. x.colon) parts.now }
+{
+    parts.iter().any(|part| part.colon)
+}
+
+// Whether it is a field whose value a `:` would end too soon.
+fn is_open_field(kind: NodeKind, parts: &[Found]) -> bool
+    ensures { result ≡ (is_field kind && list_any (λ x. x.colon) parts.now) }
+{
+    is_field(kind) && have_colon(parts)
+}
+
+fn has_colon_over(kind: NodeKind, parts: &[Found]) -> bool
+    ensures { result ≡ colon_over kind parts.now }
+{
+    is_lambda(kind) || (!does_enclose(kind) && have_colon(parts))
+}
+
+// Whether the parts are proper, the first one as a target if it is bound.
+fn are_parts_proper(bound: bool, parts: &[Found]) -> bool
+    ensures { result ≡ parts_proper_over bound parts.now }
+{
+    let Some((first, others)) = parts.split_first() else {
+        return true;
+    };
+    let is_fine = if bound { first.target } else { first.proper };
+    is_fine && are_all_proper(others)
+}
+
+fn is_proper_over(kind: NodeKind, parts: &[Found]) -> bool
+    ensures { result ≡ proper_over kind parts.now }
+{
+    are_parts_proper(does_bind_first(kind), parts)
+        && does_fit(kind, parts)
+        && !is_open_field(kind, parts)
+}
+
+fn is_target_over(kind: NodeKind, parts: &[Found]) -> bool
+    ensures { result ≡ target_over kind parts.now }
+{
+    (is_name_like(kind) && are_all_proper(parts)) || (is_of_targets(kind) && are_all_targets(parts))
+}
+
+// The greatest height of the parts, as far as it is told.
+fn highest_of(parts: &[Found]) -> u16
+    ensures { result ≡ fold (λ m x. max m x.height) 0 parts.now }
+{
+    parts
+        .iter()
+        .fold(0, |most: u16, part| most.max(part.height))
+}
+
+// The height of a node over parts, up to one above the limit.
+fn height_over(parts: &[Found]) -> u16
+    ensures { result ≡ min (min (fold (λ m x. max m x.height) 0 parts.now) 256 + 1) 257 }
+{
+    (highest_of(parts).min(256) + 1).min(257)
+}
+
+fn ids_of(alloc: Global, parts: &[Found]) -> Result<List<NodeId>, NoMemory>
+    ensures { IfOk result (λ ids. ids ≡ map (λ x. x.id) parts.now) }
+{
+    let mut ids = List::new(alloc);
+    for part in parts {
+        ids.push(part.id)?;
+    }
+    Ok(ids)
+}
+
+// Adds a node over parts that are known.
+fn add_node(
+    alloc: Global,
+    tree: &mut Tree,
+    form: Form,
+    kind: NodeKind,
+    span: Span,
+    word: Word,
+    parts: &[Found],
+) -> Result<Found, NoMemory>
+    requires linked { IsLinked tree.old }
+    requires known { AllKnown tree.old parts.now }
+    requires named { IsNamed (length tree.old.names) word }
+    ensures older { Extends tree.old tree.new }
+    ensures node { IfOk result (λ x. IsKnown tree.new x × (x.form ≡ form) × (tree_of tree.new x.id ≡ node kind span (said tree.old.names word) (listed (trees_at tree.old parts.now)))) }
+{
+    let height = height_over(parts);
+    let proper = is_proper_over(kind, parts);
+    let target = is_target_over(kind, parts);
+    let colon = has_colon_over(kind, parts);
+    let ids = ids_of(alloc, parts)?;
+    let id = tree.add(Node {
+        kind,
+        span,
+        parts: ids,
+        word,
+    })?;
+    Ok(Found {
+        id,
+        form,
+        kind,
+        span,
+        height,
+        proper,
+        target,
+        colon,
+    })
+}
+
+// Adds the leaf that a token leaves.
+fn add_leaf(
+    alloc: Global,
+    tree: &mut Tree,
+    kind: NodeKind,
+    token: &Token,
+) -> Result<Found, NoMemory>
+    requires { IsLinked tree.old }
+    ensures older { Extends tree.old tree.new }
+    ensures leaf { IfOk result (λ x. IsKnown tree.new x × (tree_of tree.new x.id ≡ leaf_of kind token.now)) }
+{
+    add_node(
+        alloc,
+        tree,
+        Form::Name,
+        kind,
+        token.span,
+        Word::Nothing,
+        &[],
+    )
+}
+
+// Adds what is kept of an item, before others, to the parts.
+fn keep(
+    alloc: Global,
+    tree: &mut Tree,
+    form: Form,
+    item: &Item,
+    behind: &[Item],
+    parts: &mut List<Found>,
+) -> Result<(), NoMemory>
+    requires linked { IsLinked tree.old }
+    requires known { AreKnown tree.old (item.now ∷ []) }
+    requires kept { AllKnown tree.old parts.old }
+    ensures older { Extends tree.old tree.new }
+    ensures kept { OnOk result (AllKnown tree.new parts.new × (trees_at tree.new parts.new ≡ trees_at tree.old parts.old ++ kept_one form (piece_at tree.old item.now) (is_part_next behind.now))) }
+{
+    match *item {
+        Item::Part(found) => {
+            parts.push(found)?;
+            Ok(())
+        }
+        Item::Word(token) => match mark_of(form, terminal_for(token), is_part_first(behind)) {
+            None => Ok(()),
+            Some(kind) => {
+                let leaf = add_leaf(alloc, tree, kind, token)?;
+                parts.push(leaf)?;
+                Ok(())
+            }
+        },
+    }
+}
+
+// The parts of a node over these items.
+fn kept_parts(
+    alloc: Global,
+    tree: &mut Tree,
+    form: Form,
+    items: &[Item],
+) -> Result<List<Found>, NoMemory>
+    requires linked { IsLinked tree.old }
+    requires known { AreKnown tree.old items.now }
+    ensures older { Extends tree.old tree.new }
+    ensures kept { IfOk result (λ v. AllKnown tree.new v × (trees_at tree.new v ≡ kept form (pieces_at tree.old items.now))) }
+{
+    let mut parts = List::new(alloc);
+    'items: for at in 0..items.len() {
+        keep(alloc, tree, form, &items[at], &items[at + 1..], &mut parts)?;
+    }
+    Ok(parts)
+}
+
+/// Adds the node of a form over its items. `NoMemory` where it could not be stored.
+pub fn assemble(
+    alloc: Global,
+    tree: &mut Tree,
+    form: Form,
+    items: &[Item],
+) -> Result<Found, NoMemory>
+    requires linked { IsLinked tree.old }
+    requires known { AreKnown tree.old items.now }
+    ensures older { Extends tree.old tree.new }
+    ensures node { IfOk result (λ x. IsKnown tree.new x × (x.form ≡ form) × (tree_of tree.new x.id ≡ assembled form (pieces_at tree.old items.now))) }
+{
+    let word = word_for(alloc, tree, form, items)?;
+    let parts = kept_parts(alloc, tree, form, items)?;
+    let kind = kind_of(form, items);
+    let span = span_over(items);
+    let found = add_node(alloc, tree, form, kind, span, word, parts.as_slice())?;
+    Ok(found)
+}
