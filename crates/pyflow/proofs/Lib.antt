@@ -11,3 +11,4 @@ pub mod Partials
 pub mod Runs
 pub mod Ends
 pub mod Sessions
+mod Limits

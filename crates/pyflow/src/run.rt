@@ -1,5 +1,5 @@
 //! The top call: a command from its words, over a source, a sink and a gate.
-ghost use Rattle.std.specs.Prelude.{◌≡◌, ◌≢◌, ◌↔◌, [], None, map, string_bytes};
+ghost use Rattle.std.specs.Prelude.{◌≡◌, ◌≢◌, ◌↔◌, ◌≤◌, ◌<◌, ◌^◌, [], None, map, string_bytes};
 ghost use Rattle.py_base.specs.Causes.{Rose};
 ghost use Rattle.pyflow.specs.Command.{command_of};
 ghost use Rattle.pyflow.specs.Served.{Reports};
@@ -25,6 +25,11 @@ pub fn run<S: Source + Send, K: Sink, G: Gate + Sync>(
     ensures usage { (result.status ≡ 2) ↔ (command_of (map string_bytes words.now) ≡ None) }
     ensures untouched { result.status ≡ 2 → (source.new ≡ source.old) × (sink.new ≡ sink.old) }
     ensures reports { Reports result.status result.journal result.bytes_taken (S.ended source.old) (S.ended source.new) (S.left source.old) (S.left source.new) (K.written sink.old) (K.written sink.new) }
+
+    // At most 2^40 bytes are taken, and fewer where the input failed: with as many, no end and no
+    // line `end`, the status is 6 (or 4 or 5).
+    ensures limit { result.bytes_taken ≤ 2 ^ 40 }
+    ensures below { result.status ≡ 3 → result.bytes_taken < 2 ^ 40 }
 
     // A fault is answered where a device failed, and nowhere else.
     ensures read_fault { result.status ≡ 3 → Rose (S.faults source.old) (S.faults source.new) }

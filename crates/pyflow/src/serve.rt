@@ -1,5 +1,5 @@
 //! The command `serve` with no worker: a session from bytes to bytes.
-ghost use Rattle.std.specs.Prelude.{◌≡◌, ◌≢◌, ◌≤◌, [], ◌∷◌, ◌++◌, false, None, Ok, ℕ, List, ◌⊎◌};
+ghost use Rattle.std.specs.Prelude.{◌≡◌, ◌≢◌, ◌≤◌, ◌<◌, ◌^◌, [], ◌∷◌, ◌++◌, false, None, Ok, ℕ, List, ◌⊎◌};
 ghost use Rattle.py_base.specs.Causes.{Rose};
 ghost use Rattle.pyflow.specs.Served.{code_of, Account, IsMarked, Reports};
 
@@ -28,6 +28,11 @@ pub struct Served {
 pub fn serve_serial<S: Source, K: Sink>(alloc: Global, source: &mut S, sink: &mut K) -> Served
     ensures reports { Reports result.status result.journal result.bytes_taken (S.ended source.old) (S.ended source.new) (S.left source.old) (S.left source.new) (K.written sink.old) (K.written sink.new) }
     ensures served { result.status ≢ 2 }
+
+    // At most 2^40 bytes are taken, and fewer where the input failed: with as many, no end and no
+    // line `end`, the status is 6 (or 4 or 5).
+    ensures limit { result.bytes_taken ≤ 2 ^ 40 }
+    ensures below { result.status ≡ 3 → result.bytes_taken < 2 ^ 40 }
 
     // A fault is answered where a device failed, and nowhere else.
     ensures read_fault { result.status ≡ 3 → Rose (S.faults source.old) (S.faults source.new) }
@@ -69,6 +74,8 @@ fn serve_lines<S: Source, K: Sink>(
     ensures account { Account result session.new.journal reader.new.taken reader.new.at_end (S.left source.old) (S.left source.new) (K.written sink.old) (K.written sink.new) }
     ensures at_end { IsMarked (S.ended source.old) (S.ended source.new) reader.new.at_end }
     ensures served { result ≢ Status.Usage }
+    ensures limit { reader.new.taken ≤ 2 ^ 40 }
+    ensures below { result ≡ Status.ReadFault → reader.new.taken < 2 ^ 40 }
     ensures read_fault { result ≡ Status.ReadFault → Rose (S.faults source.old) (S.faults source.new) }
     ensures reads { result ≢ Status.ReadFault → S.faults source.new ≡ S.faults source.old }
     ensures write_fault { result ≡ Status.WriteFault → Rose (K.faults sink.old) (K.faults sink.new) }

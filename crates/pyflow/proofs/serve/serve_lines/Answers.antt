@@ -1,6 +1,7 @@
 use Rattle.std.proofs.Common.{◌≡◌, ◌∙◌, sym, inl, inr, refl, arith, Ok, None, false, true}
 use Rattle.pyflow.specs.Journal.{is_end_line}
 use Rattle.pyflow.proofs.Ends.{marks}
+use Rattle.pyflow.proofs.Limits.{within_limit, below_limit}
 use Rattle.pyflow.proofs.Sessions.{begins, not_at_end, hands_line, goes_on, stops_at_end, stops_read_fault, stops_too_long, stops_reading, stops_ended, stops_within}
 use Rattle.pyflow.proofs.serve.serve_lines.Goals as goal
 
@@ -93,3 +94,36 @@ returns-in-Err-WriteFault-clause-at_end g c = marks g.S.Source.ended c.args.sour
 
 pub returns-in-Err-Memory-take_line-clause-at_end : goal.returns-in-Err-Memory-take_line-clause-at_end
 returns-in-Err-Memory-take_line-clause-at_end g c = marks g.S.Source.ended c.args.source.now _ _ _ _ c.lines.invariant.at_end c.next_line.ensures.ends
+
+pub returns-in-Ok-None-clause-limit : goal.returns-in-Ok-None-clause-limit
+returns-in-Ok-None-clause-limit g c =
+    within_limit c.next_line.result c.lines.reader c.next_line.new.self _ _ (c.next_line.ensures.answer c.lines.invariant.fault) c.lines.invariant.so_far.handed.most c.next_line.ensures.within
+
+pub returns-in-Err-ReadFault-clause-limit : goal.returns-in-Err-ReadFault-clause-limit
+returns-in-Err-ReadFault-clause-limit g c =
+    within_limit c.next_line.result c.lines.reader c.next_line.new.self _ _ (c.next_line.ensures.answer c.lines.invariant.fault) c.lines.invariant.so_far.handed.most c.next_line.ensures.within
+
+pub returns-in-Err-TooLong-clause-limit : goal.returns-in-Err-TooLong-clause-limit
+returns-in-Err-TooLong-clause-limit g c =
+    within_limit c.next_line.result c.lines.reader c.next_line.new.self _ _ (c.next_line.ensures.answer c.lines.invariant.fault) c.lines.invariant.so_far.handed.most c.next_line.ensures.within
+
+pub returns-in-Err-Memory-clause-limit : goal.returns-in-Err-Memory-clause-limit
+returns-in-Err-Memory-clause-limit g c =
+    within_limit c.next_line.result c.lines.reader c.next_line.new.self _ _ (c.next_line.ensures.answer c.lines.invariant.fault) c.lines.invariant.so_far.handed.most c.next_line.ensures.within
+
+pub returns-in-Ok-true-clause-limit : goal.returns-in-Ok-true-clause-limit
+returns-in-Ok-true-clause-limit g c =
+    within_limit c.next_line.result c.lines.reader c.next_line.new.self _ _ (c.next_line.ensures.answer c.lines.invariant.fault) c.lines.invariant.so_far.handed.most c.next_line.ensures.within
+
+pub returns-in-Err-WriteFault-clause-limit : goal.returns-in-Err-WriteFault-clause-limit
+returns-in-Err-WriteFault-clause-limit g c =
+    within_limit c.next_line.result c.lines.reader c.next_line.new.self _ _ (c.next_line.ensures.answer c.lines.invariant.fault) c.lines.invariant.so_far.handed.most c.next_line.ensures.within
+
+pub returns-in-Err-Memory-take_line-clause-limit : goal.returns-in-Err-Memory-take_line-clause-limit
+returns-in-Err-Memory-take_line-clause-limit g c =
+    within_limit c.next_line.result c.lines.reader c.next_line.new.self _ _ (c.next_line.ensures.answer c.lines.invariant.fault) c.lines.invariant.so_far.handed.most c.next_line.ensures.within
+
+pub returns-in-Err-ReadFault-clause-below : goal.returns-in-Err-ReadFault-clause-below
+returns-in-Err-ReadFault-clause-below g c =
+    let answer = rw c.in-Err-ReadFault.field-0-is at (c.in-Err-ReadFault.ensures.answer c.lines.invariant.fault) in
+    λ _. below_limit c.lines.reader c.next_line.new.self _ _ answer.0 c.lines.invariant.so_far.handed.most answer.1
