@@ -1,6 +1,8 @@
 pub mod Causes
 pub mod LineStarts
 pub mod Lines
+pub mod OneTree
+pub mod OneTreeLaws
 pub mod Places
 pub mod RuleName
 pub mod Tree

@@ -1,6 +1,7 @@
 //! Expressions by their level.
 ghost use Rattle.std.specs.Prelude.{◌≡◌, ◌<◌, ℕ, List, length, IfOk, IfSome, IfNone, IsSomeAnd, OnErr};
 ghost use Rattle.py_base.specs.Tree.{SyntaxTree, tree_of, Grows};
+ghost use Rattle.py_base.specs.OneTree.{AddsOneTree};
 ghost use Rattle.py_tokens.specs.declared.lines.Token.{Token};
 ghost use Rattle.py_grammar.specs.Levelled.{IsTreeOf};
 ghost use Rattle.py_exprs.specs.Levels.{need_at};
@@ -57,6 +58,8 @@ pub fn expression(
     ensures found { IfOk result (λ o. IfSome o (λ id. (id.0 < length tree.new.nodes) × IsTreeOf tokens.now (need_at level) (tree_of tree.new id))) }
     // Each such tree is the one that is given, so that none is given only where there is none.
     ensures only { IfOk result (λ o. (t : SyntaxTree) → IsTreeOf tokens.now (need_at level) t → IsSomeAnd o (λ id. tree_of tree.new id ≡ t)) }
+    // What was added is this one tree: its root is the newest node, and no node is a part twice.
+    ensures once { IfOk result (λ o. IfSome o (λ id. AddsOneTree tree.old tree.new id)) }
     ensures none { IfOk result (λ o. IfNone o (tree.new ≡ tree.old)) }
     ensures err { OnErr result (tree.new ≡ tree.old) }
 {

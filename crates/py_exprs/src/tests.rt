@@ -160,10 +160,12 @@ const TREES: &str = r"0 b := c => none
 2 lambda: a => (Lambda a)
 0 lambda: x, y => (Entries (Lambda x) y)
 2 lambda: x, y => none
-2 lambda x: lambda y: z => (Lambda (Parameter:x) (Lambda (Parameter:y) z))
-2 lambda a, b=c, /, *d, e, **f,: g => (Lambda (Parameter:a) (Parameter:b c) (Slash) (StarParameter:d) (Parameter:e) (DoubleStarParameter:f) (LastComma) g)
-2 lambda *, a: b => (Lambda (BareStar) (Parameter:a) b)
-2 lambda a=lambda: b: c => (Lambda (Parameter:a (Lambda b)) c)
+2 lambda x: lambda y: z => (Lambda x (Lambda y z))
+2 lambda a, b=c, /, *d, e, **f,: g => (Lambda a (Parameter b c) (Slash) (StarParameter d) e (DoubleStarParameter f) (LastComma) g)
+2 lambda *, a: b => (Lambda (BareStar) a b)
+2 lambda a=lambda: b: c => (Lambda (Parameter a (Lambda b)) c)
+2 lambda **a: b => (Lambda (DoubleStarParameter a) b)
+2 lambda a, *, _=b: type => (Lambda a (BareStar) (Parameter _ b) type)
 2 lambda x => none
 2 lambda /, a: b => none
 2 lambda *: a => none
@@ -194,10 +196,13 @@ const TREES: &str = r"0 b := c => none
 2 not a == b => (Not (Comparison:Equal a b))
 2 a == not b => none
 2 not => none
-2 a < b < c => (Comparison:Less a b (Link:Less c))
-2 a not in b is not c => (Comparison:NotIn a b (Link:IsNot c))
-2 a in b is c => (Comparison:In a b (Link:Is c))
-2 a >= b <= c != d > e => (Comparison:GreaterEqual a b (Link:LessEqual c) (Link:NotEqual d) (Link:Greater e))
+2 a < b < c => (Comparison:Less a b (Link:Less) c)
+2 a not in b is not c => (Comparison:NotIn a b (Link:IsNot) c)
+2 a in b is c => (Comparison:In a b (Link:Is) c)
+2 a >= b <= c != d > e => (Comparison:GreaterEqual a b (Link:LessEqual) c (Link:NotEqual) d (Link:Greater) e)
+2 a is b not in c => (Comparison:Is a b (Link:NotIn) c)
+2 a < b is => none
+2 a < b not c => none
 2 a not b => none
 2 a is => none
 2 a < > b => none
@@ -415,6 +420,62 @@ fn is_negated(alloc: Global, times: u32) -> Result<bool, NoMemory> {
     })?;
     let mut tree = Tree::new(alloc)?;
     Ok(expression(alloc, tokens.as_slice(), 2, &mut tree)?.is_some())
+}
+
+// Adds a token of this spelling.
+fn add_token(
+    alloc: Global,
+    tokens: &mut List<Token>,
+    kind: TokenKind,
+    text: &str,
+) -> Result<(), NoMemory> {
+    let text = Text::from_str(alloc, text)?;
+    let span = Span { from: 0, to: 0 };
+    tokens.push(Token { kind, span, text })?;
+    Ok(())
+}
+
+// Adds `a < b < - (`.
+fn add_chain(alloc: Global, tokens: &mut List<Token>) -> Result<(), NoMemory> {
+    add_token(alloc, tokens, TokenKind::Name, "a")?;
+    add_token(alloc, tokens, TokenKind::Operator, "<")?;
+    add_token(alloc, tokens, TokenKind::Name, "b")?;
+    add_token(alloc, tokens, TokenKind::Operator, "<")?;
+    add_token(alloc, tokens, TokenKind::Operator, "-")?;
+    add_token(alloc, tokens, TokenKind::Operator, "(")
+}
+
+fn add_chains(alloc: Global, tokens: &mut List<Token>, times: u32) -> Result<(), NoMemory> {
+    for _ in 0..times {
+        add_chain(alloc, tokens)?;
+    }
+    Ok(())
+}
+
+fn add_closings(alloc: Global, tokens: &mut List<Token>, times: u32) -> Result<(), NoMemory> {
+    for _ in 0..times {
+        add_token(alloc, tokens, TokenKind::Operator, ")")?;
+    }
+    Ok(())
+}
+
+// Whether chains nested so deep, each at the end of the one around it, have a tree. Its height is 1
+// for the name in the middle, and 3 for each chain: the chain, its sign and the brackets.
+fn is_chained(alloc: Global, times: u32) -> Result<bool, NoMemory> {
+    let mut tokens = List::new(alloc);
+    add_chains(alloc, &mut tokens, times)?;
+    add_token(alloc, &mut tokens, TokenKind::Name, "c")?;
+    add_closings(alloc, &mut tokens, times)?;
+    let mut tree = Tree::new(alloc)?;
+    Ok(expression(alloc, tokens.as_slice(), 2, &mut tree)?.is_some())
+}
+
+#[test]
+fn takes_nested_chains_up_to_the_limit(rt: HostRuntime) -> Result<(), Fail> {
+    assert!(rt; is_chained(rt.alloc(), 64)?);
+    assert!(rt; is_chained(rt.alloc(), 85)?);
+    assert!(rt; !is_chained(rt.alloc(), 86)?);
+    Ok(())
 }
 
 #[test]

@@ -9,6 +9,7 @@ use Rattle.py_grammar.specs.declared.words.Terminal.TheVariants as terminals
 use Rattle.py_grammar.specs.declared.words.Form.{Form}
 use Rattle.py_grammar.specs.declared.words.Need.{Need}
 use Rattle.py_grammar.specs.declared.found.Found.{Found}
+use Rattle.py_grammar.specs.Table.{plain}
 use Rattle.py_grammar.specs.Terminal.{terminal}
 use Rattle.py_grammar.specs.Reading.{Reading, opened, joined, Parts, no_more, word, part, depth, depth_parts, spell, IsWellFormed, Meets}
 use Rattle.py_grammar.specs.Meaning.{Piece, of_word, of_tree, kept, marked, mark_for, is_tree_next, listed, tree_of_reading, pieces}
@@ -34,7 +35,7 @@ height-kept : (f : Form) (xs : List Piece) → highest_piece xs ≤ height_of (l
 height-kept f [] = omega arith
 height-kept f (of_word w ∷ xs) =
     let h = height-kept f xs in
-    let k = height-append (marked (mark_for f (terminal w) (is_tree_next xs)) w) (kept f xs) in
+    let k = height-append (marked (mark_for f (plain (terminal w)) (is_tree_next xs)) w) (kept f xs) in
     omega arith
 height-kept f (of_tree t ∷ xs) = let h = height-kept f xs in omega arith
 

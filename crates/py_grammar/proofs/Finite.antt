@@ -2,7 +2,7 @@
 use Rattle.std.proofs.Common.{◌≡◌, ℕ, zero, suc, Bool, true, false, ◌&&◌, cond, List, [], ◌∷◌, Option, Some, None, refl, slice_get}
 use Rattle.std.specs.Prelude.{find}
 use Rattle.std.proofs.lemmas.Bool.{and_parts}
-use Rattle.py_grammar.specs.Table.{number}
+use Rattle.py_grammar.specs.Table.{number, form_number}
 use Rattle.py_grammar.specs.Reading.{Among, here, there}
 use Rattle.py_grammar.specs.declared.words.Terminal.{Terminal}
 use Rattle.py_grammar.specs.declared.words.Terminal.TheVariants as terminals
@@ -52,7 +52,7 @@ at_place (y ∷ ys) zero x e = let same : y ≡ x = cc in rw (← same) here
 at_place (y ∷ ys) (suc i) x e = there (at_place ys i x e)
 
 abbrev pub all_terminals : List Terminal
-all_terminals = terminals.Name ∷ terminals.Int ∷ terminals.Float ∷ terminals.Imaginary ∷ terminals.Str ∷ terminals.BytesStr ∷ terminals.FStart ∷ terminals.FText ∷ terminals.FConversion ∷ terminals.FEnd ∷ terminals.FalseWord ∷ terminals.NoneWord ∷ terminals.TrueWord ∷ terminals.And ∷ terminals.Async ∷ terminals.Await ∷ terminals.Else ∷ terminals.For ∷ terminals.From ∷ terminals.If ∷ terminals.In ∷ terminals.Is ∷ terminals.Lambda ∷ terminals.Not ∷ terminals.Or ∷ terminals.Yield ∷ terminals.PlusMinus ∷ terminals.Tilde ∷ terminals.Star ∷ terminals.DoubleStar ∷ terminals.Slash ∷ terminals.Times ∷ terminals.Shift ∷ terminals.Ampersand ∷ terminals.Bar ∷ terminals.Caret ∷ terminals.Walrus ∷ terminals.Compare ∷ terminals.OpenRound ∷ terminals.CloseRound ∷ terminals.OpenSquare ∷ terminals.CloseSquare ∷ terminals.OpenCurly ∷ terminals.CloseCurly ∷ terminals.Comma ∷ terminals.Colon ∷ terminals.Dot ∷ terminals.Ellipsis ∷ terminals.Assign ∷ terminals.Other ∷ terminals.End ∷ []
+all_terminals = terminals.Name ∷ terminals.MatchWord ∷ terminals.CaseWord ∷ terminals.TypeWord ∷ terminals.Underscore ∷ terminals.Int ∷ terminals.Float ∷ terminals.Imaginary ∷ terminals.Str ∷ terminals.BytesStr ∷ terminals.FStart ∷ terminals.FText ∷ terminals.FConversion ∷ terminals.FEnd ∷ terminals.FalseWord ∷ terminals.NoneWord ∷ terminals.TrueWord ∷ terminals.And ∷ terminals.As ∷ terminals.Assert ∷ terminals.Async ∷ terminals.Await ∷ terminals.Break ∷ terminals.Class ∷ terminals.Continue ∷ terminals.Def ∷ terminals.Del ∷ terminals.Elif ∷ terminals.Else ∷ terminals.Except ∷ terminals.Finally ∷ terminals.For ∷ terminals.From ∷ terminals.Global ∷ terminals.If ∷ terminals.Import ∷ terminals.In ∷ terminals.Is ∷ terminals.Lambda ∷ terminals.Nonlocal ∷ terminals.Not ∷ terminals.Or ∷ terminals.Pass ∷ terminals.Raise ∷ terminals.Return ∷ terminals.Try ∷ terminals.While ∷ terminals.With ∷ terminals.Yield ∷ terminals.Plus ∷ terminals.Minus ∷ terminals.Tilde ∷ terminals.Star ∷ terminals.DoubleStar ∷ terminals.Slash ∷ terminals.Times ∷ terminals.At ∷ terminals.Shift ∷ terminals.Ampersand ∷ terminals.Bar ∷ terminals.Caret ∷ terminals.Walrus ∷ terminals.Compare ∷ terminals.OpenRound ∷ terminals.CloseRound ∷ terminals.OpenSquare ∷ terminals.CloseSquare ∷ terminals.OpenCurly ∷ terminals.CloseCurly ∷ terminals.Comma ∷ terminals.Colon ∷ terminals.Semicolon ∷ terminals.Dot ∷ terminals.Ellipsis ∷ terminals.Arrow ∷ terminals.Assign ∷ terminals.AugmentedAssign ∷ terminals.Other ∷ terminals.End ∷ []
 
 terminal_among : (x : Terminal) → slice_get all_terminals (number x) ≡ Some x
 terminal_among terminals.Name = refl
@@ -62,62 +62,7 @@ pub each_terminal : (P : Terminal → Bool) (x : Terminal) → every P all_termi
 each_terminal P x h = every_at P (at_place all_terminals (number x) x (terminal_among x)) h
 
 abbrev pub all_forms : List Form
-all_forms = forms.Entries ∷ forms.Named ∷ forms.Lambda ∷ forms.Conditional ∷ forms.Or ∷ forms.And ∷ forms.Not ∷ forms.Comparison ∷ forms.BitOr ∷ forms.BitXor ∷ forms.BitAnd ∷ forms.Shift ∷ forms.Sum ∷ forms.Product ∷ forms.Unary ∷ forms.Power ∷ forms.Await ∷ forms.Attribute ∷ forms.Call ∷ forms.Subscript ∷ forms.Name ∷ forms.Int ∷ forms.Float ∷ forms.Imaginary ∷ forms.Strings ∷ forms.BytesStrings ∷ forms.NoneValue ∷ forms.TrueValue ∷ forms.FalseValue ∷ forms.Ellipsis ∷ forms.Round ∷ forms.Square ∷ forms.Curly ∷ forms.Starred ∷ forms.DoubleStarred ∷ forms.StarArgument ∷ forms.DoubleStarArgument ∷ forms.Keyword ∷ forms.Item ∷ forms.ComprehensionFor ∷ forms.AsyncComprehensionFor ∷ forms.ComprehensionIf ∷ forms.Targets ∷ forms.Slice ∷ forms.SliceFrom ∷ forms.Link ∷ forms.Parameter ∷ forms.SlashParameter ∷ forms.StarParameter ∷ forms.DoubleStarParameter ∷ forms.Yield ∷ forms.Field ∷ forms.Format ∷ []
-
-abbrev form_number : Form → ℕ
-form_number forms.Entries = 0
-form_number forms.Named = 1
-form_number forms.Lambda = 2
-form_number forms.Conditional = 3
-form_number forms.Or = 4
-form_number forms.And = 5
-form_number forms.Not = 6
-form_number forms.Comparison = 7
-form_number forms.BitOr = 8
-form_number forms.BitXor = 9
-form_number forms.BitAnd = 10
-form_number forms.Shift = 11
-form_number forms.Sum = 12
-form_number forms.Product = 13
-form_number forms.Unary = 14
-form_number forms.Power = 15
-form_number forms.Await = 16
-form_number forms.Attribute = 17
-form_number forms.Call = 18
-form_number forms.Subscript = 19
-form_number forms.Name = 20
-form_number forms.Int = 21
-form_number forms.Float = 22
-form_number forms.Imaginary = 23
-form_number forms.Strings = 24
-form_number forms.BytesStrings = 25
-form_number forms.NoneValue = 26
-form_number forms.TrueValue = 27
-form_number forms.FalseValue = 28
-form_number forms.Ellipsis = 29
-form_number forms.Round = 30
-form_number forms.Square = 31
-form_number forms.Curly = 32
-form_number forms.Starred = 33
-form_number forms.DoubleStarred = 34
-form_number forms.StarArgument = 35
-form_number forms.DoubleStarArgument = 36
-form_number forms.Keyword = 37
-form_number forms.Item = 38
-form_number forms.ComprehensionFor = 39
-form_number forms.AsyncComprehensionFor = 40
-form_number forms.ComprehensionIf = 41
-form_number forms.Targets = 42
-form_number forms.Slice = 43
-form_number forms.SliceFrom = 44
-form_number forms.Link = 45
-form_number forms.Parameter = 46
-form_number forms.SlashParameter = 47
-form_number forms.StarParameter = 48
-form_number forms.DoubleStarParameter = 49
-form_number forms.Yield = 50
-form_number forms.Field = 51
-form_number forms.Format = 52
+all_forms = forms.Entries ∷ forms.Named ∷ forms.Lambda ∷ forms.Conditional ∷ forms.Or ∷ forms.And ∷ forms.Not ∷ forms.Comparison ∷ forms.BitOr ∷ forms.BitXor ∷ forms.BitAnd ∷ forms.Shift ∷ forms.Sum ∷ forms.Product ∷ forms.Unary ∷ forms.Power ∷ forms.Await ∷ forms.Attribute ∷ forms.Call ∷ forms.Subscript ∷ forms.Name ∷ forms.TypeName ∷ forms.Underscore ∷ forms.Int ∷ forms.Float ∷ forms.Imaginary ∷ forms.Strings ∷ forms.BytesStrings ∷ forms.NoneValue ∷ forms.TrueValue ∷ forms.FalseValue ∷ forms.Ellipsis ∷ forms.Round ∷ forms.Square ∷ forms.Curly ∷ forms.Starred ∷ forms.DoubleStarred ∷ forms.StarArgument ∷ forms.DoubleStarArgument ∷ forms.Keyword ∷ forms.Item ∷ forms.ComprehensionFor ∷ forms.AsyncComprehensionFor ∷ forms.ComprehensionIf ∷ forms.Targets ∷ forms.Slice ∷ forms.SliceFrom ∷ forms.Link ∷ forms.Parameter ∷ forms.SlashParameter ∷ forms.StarParameter ∷ forms.DoubleStarParameter ∷ forms.Yield ∷ forms.Field ∷ forms.Format ∷ forms.Statements ∷ forms.Assign ∷ forms.AnnotatedAssign ∷ forms.AugmentedAssign ∷ forms.Pass ∷ forms.Break ∷ forms.Continue ∷ forms.Return ∷ forms.Raise ∷ forms.Global ∷ forms.Nonlocal ∷ forms.Del ∷ forms.Assert ∷ forms.Import ∷ forms.ImportFrom ∷ forms.DottedName ∷ forms.RelativeSource ∷ forms.Alias ∷ forms.FromAlias ∷ forms.TypeAlias ∷ forms.TypeParameters ∷ forms.TypeParameter ∷ forms.StarTypeParameter ∷ forms.DoubleStarTypeParameter ∷ forms.Parameters ∷ forms.AnnotatedParameter ∷ forms.DefStarParameter ∷ forms.DefDoubleStarParameter ∷ forms.Result ∷ forms.Arguments ∷ forms.Suite ∷ forms.If ∷ forms.Elif ∷ forms.Else ∷ forms.While ∷ forms.For ∷ forms.Try ∷ forms.Except ∷ forms.Finally ∷ forms.With ∷ forms.BracketedWith ∷ forms.WithItem ∷ forms.Def ∷ forms.Class ∷ forms.Match ∷ forms.Case ∷ forms.Async ∷ forms.BracketedAsync ∷ forms.Decorator ∷ forms.SignedNumber ∷ forms.ComplexNumber ∷ forms.PatternRound ∷ forms.PatternSquare ∷ forms.Patterns ∷ forms.StarPattern ∷ forms.DoubleStarPattern ∷ forms.MappingPattern ∷ forms.PatternItem ∷ forms.ClassPattern ∷ forms.KeywordPattern ∷ forms.OrPattern ∷ forms.AsPattern ∷ []
 
 form_among : (x : Form) → slice_get all_forms (form_number x) ≡ Some x
 form_among forms.Entries = refl
@@ -127,7 +72,7 @@ pub each_form : (P : Form → Bool) (x : Form) → every P all_forms ≡ true �
 each_form P x h = every_at P (at_place all_forms (form_number x) x (form_among x)) h
 
 abbrev pub all_needs : List Need
-all_needs = needs.Expressions ∷ needs.Named ∷ needs.Expression ∷ needs.Disjunction ∷ needs.Conjunction ∷ needs.Inversion ∷ needs.Comparison ∷ needs.BitOr ∷ needs.BitXor ∷ needs.BitAnd ∷ needs.Shift ∷ needs.Sum ∷ needs.Term ∷ needs.Factor ∷ needs.Power ∷ needs.Await ∷ needs.Primary ∷ needs.Atom ∷ needs.Nothing ∷ needs.Identifier ∷ needs.Entry ∷ needs.StarredEntry ∷ needs.StarOperand ∷ needs.Element ∷ needs.CurlyEntry ∷ needs.DoubleStarredEntry ∷ needs.CurlyElement ∷ needs.Argument ∷ needs.UnpackedArgument ∷ needs.AnyArgument ∷ needs.IndexEntry ∷ needs.Target ∷ needs.TargetList ∷ needs.Clause ∷ needs.FurtherClause ∷ needs.Parameter ∷ needs.Link ∷ needs.YieldValue ∷ needs.Field ∷ needs.Format ∷ []
+all_needs = needs.Expressions ∷ needs.Named ∷ needs.Expression ∷ needs.Disjunction ∷ needs.Conjunction ∷ needs.Inversion ∷ needs.Comparison ∷ needs.BitOr ∷ needs.BitXor ∷ needs.BitAnd ∷ needs.Shift ∷ needs.Sum ∷ needs.Term ∷ needs.Factor ∷ needs.Power ∷ needs.Await ∷ needs.Primary ∷ needs.Atom ∷ needs.Nothing ∷ needs.Identifier ∷ needs.Entry ∷ needs.StarredEntry ∷ needs.StarOperand ∷ needs.Element ∷ needs.CurlyEntry ∷ needs.DoubleStarredEntry ∷ needs.CurlyElement ∷ needs.Argument ∷ needs.UnpackedArgument ∷ needs.AnyArgument ∷ needs.IndexEntry ∷ needs.Target ∷ needs.TargetList ∷ needs.Clause ∷ needs.FurtherClause ∷ needs.Parameter ∷ needs.Link ∷ needs.YieldValue ∷ needs.Field ∷ needs.Format ∷ needs.Line ∷ needs.KeywordLine ∷ needs.SimpleStatement ∷ needs.AssignedPart ∷ needs.AssignedValue ∷ needs.Reference ∷ needs.DottedName ∷ needs.Source ∷ needs.ImportItem ∷ needs.FromItem ∷ needs.TypeKeyword ∷ needs.TypeParameters ∷ needs.TypeParameter ∷ needs.Suite ∷ needs.WithEntry ∷ needs.Parameters ∷ needs.DefParameter ∷ needs.Result ∷ needs.Arguments ∷ needs.AsyncHeader ∷ needs.BracketedWith ∷ needs.Subject ∷ needs.Number ∷ needs.RealNumber ∷ needs.ImaginaryNumber ∷ needs.ClosedPattern ∷ needs.Alternatives ∷ needs.Pattern ∷ needs.PatternEntry ∷ needs.StarPattern ∷ needs.CasePattern ∷ needs.CapturedName ∷ needs.PatternKey ∷ needs.DoubleStarPattern ∷ needs.PatternItem ∷ needs.ClassEntry ∷ []
 
 abbrev need_number : Need → ℕ
 need_number needs.Expressions = 0
@@ -170,6 +115,42 @@ need_number needs.Link = 36
 need_number needs.YieldValue = 37
 need_number needs.Field = 38
 need_number needs.Format = 39
+need_number needs.Line = 40
+need_number needs.KeywordLine = 41
+need_number needs.SimpleStatement = 42
+need_number needs.AssignedPart = 43
+need_number needs.AssignedValue = 44
+need_number needs.Reference = 45
+need_number needs.DottedName = 46
+need_number needs.Source = 47
+need_number needs.ImportItem = 48
+need_number needs.FromItem = 49
+need_number needs.TypeKeyword = 50
+need_number needs.TypeParameters = 51
+need_number needs.TypeParameter = 52
+need_number needs.Suite = 53
+need_number needs.WithEntry = 54
+need_number needs.Parameters = 55
+need_number needs.DefParameter = 56
+need_number needs.Result = 57
+need_number needs.Arguments = 58
+need_number needs.AsyncHeader = 59
+need_number needs.BracketedWith = 60
+need_number needs.Subject = 61
+need_number needs.Number = 62
+need_number needs.RealNumber = 63
+need_number needs.ImaginaryNumber = 64
+need_number needs.ClosedPattern = 65
+need_number needs.Alternatives = 66
+need_number needs.Pattern = 67
+need_number needs.PatternEntry = 68
+need_number needs.StarPattern = 69
+need_number needs.CasePattern = 70
+need_number needs.CapturedName = 71
+need_number needs.PatternKey = 72
+need_number needs.DoubleStarPattern = 73
+need_number needs.PatternItem = 74
+need_number needs.ClassEntry = 75
 
 need_among : (x : Need) → slice_get all_needs (need_number x) ≡ Some x
 need_among needs.Expressions = refl
@@ -179,7 +160,7 @@ pub each_need : (P : Need → Bool) (x : Need) → every P all_needs ≡ true �
 each_need P x h = every_at P (at_place all_needs (need_number x) x (need_among x)) h
 
 abbrev pub all_states : List State
-all_states = states.Done ∷ states.LastExpression ∷ states.LastDisjunction ∷ states.LastConjunction ∷ states.LastInversion ∷ states.LastBitOr ∷ states.LastBitXor ∷ states.LastBitAnd ∷ states.LastShift ∷ states.LastSum ∷ states.LastTerm ∷ states.LastFactor ∷ states.LastPrimary ∷ states.LastStarOperand ∷ states.EntryNext ∷ states.EntryMore ∷ states.TargetNext ∷ states.TargetMore ∷ states.ConditionalTest ∷ states.ConditionalElse ∷ states.Compared ∷ states.ComparedNot ∷ states.ComparedIs ∷ states.ComparedMore ∷ states.LinkNot ∷ states.LinkIs ∷ states.AttributeName ∷ states.CallFirst ∷ states.CallAfterFirst ∷ states.CallNext ∷ states.CallMore ∷ states.RoundClauses ∷ states.IndexFirst ∷ states.IndexMore ∷ states.IndexNext ∷ states.LambdaNext ∷ states.LambdaMore ∷ states.ParameterDefault ∷ states.StarParameterName ∷ states.DoubleStarName ∷ states.RoundFirst ∷ states.RoundClose ∷ states.RoundAfterFirst ∷ states.RoundNext ∷ states.RoundMore ∷ states.SquareFirst ∷ states.SquareAfterFirst ∷ states.SquareClauses ∷ states.SquareNext ∷ states.SquareMore ∷ states.CurlyFirst ∷ states.CurlyAfterFirst ∷ states.CurlyClauses ∷ states.CurlyNext ∷ states.CurlyMore ∷ states.AsyncFor ∷ states.ForTargets ∷ states.ForIn ∷ states.SliceFirst ∷ states.SliceSecond ∷ states.SliceStep ∷ states.YieldFirst ∷ states.FieldFirst ∷ states.FieldTail ∷ states.FieldAssign ∷ states.FieldConverted ∷ states.FieldClose ∷ states.FormatNext ∷ states.FBody ∷ states.StringsMore ∷ states.BytesMore ∷ []
+all_states = states.Done ∷ states.LastExpression ∷ states.LastDisjunction ∷ states.LastConjunction ∷ states.LastInversion ∷ states.LastBitOr ∷ states.LastBitXor ∷ states.LastBitAnd ∷ states.LastShift ∷ states.LastSum ∷ states.LastTerm ∷ states.LastFactor ∷ states.LastPrimary ∷ states.LastStarOperand ∷ states.LastName ∷ states.LastIdentifier ∷ states.EntryNext ∷ states.EntryMore ∷ states.TargetNext ∷ states.TargetMore ∷ states.ConditionalTest ∷ states.ConditionalElse ∷ states.Compared ∷ states.ComparedNot ∷ states.ComparedIs ∷ states.ComparedMore ∷ states.LinkOperand ∷ states.LinkNot ∷ states.LinkIs ∷ states.CallFirst ∷ states.CallAfterFirst ∷ states.CallNext ∷ states.CallMore ∷ states.RoundClauses ∷ states.IndexFirst ∷ states.IndexMore ∷ states.IndexNext ∷ states.LambdaNext ∷ states.LambdaMore ∷ states.StarParameterName ∷ states.RoundFirst ∷ states.RoundClose ∷ states.RoundAfterFirst ∷ states.RoundNext ∷ states.RoundMore ∷ states.SquareFirst ∷ states.SquareAfterFirst ∷ states.SquareClauses ∷ states.SquareNext ∷ states.SquareMore ∷ states.CurlyFirst ∷ states.CurlyAfterFirst ∷ states.CurlyClauses ∷ states.CurlyNext ∷ states.CurlyMore ∷ states.AsyncFor ∷ states.ForTargets ∷ states.ForIn ∷ states.SliceFirst ∷ states.SliceSecond ∷ states.SliceStep ∷ states.YieldFirst ∷ states.FieldFirst ∷ states.FieldTail ∷ states.FieldAssign ∷ states.FieldConverted ∷ states.FieldClose ∷ states.FormatNext ∷ states.FBody ∷ states.StringsMore ∷ states.BytesMore ∷ states.StatementNext ∷ states.StatementMore ∷ states.AssignNext ∷ states.AssignMore ∷ states.AnnotationFirst ∷ states.AnnotationMore ∷ states.LastAssigned ∷ states.ReturnFirst ∷ states.RaiseFirst ∷ states.RaiseMore ∷ states.NameNext ∷ states.NameMore ∷ states.LastTargets ∷ states.AssertFirst ∷ states.AssertMore ∷ states.ImportNext ∷ states.ImportMore ∷ states.FromSource ∷ states.FromImport ∷ states.FromFirst ∷ states.FromNext ∷ states.FromMore ∷ states.FromBracketed ∷ states.FromBracketedMore ∷ states.FromBracketedNext ∷ states.DotsMore ∷ states.AliasParameters ∷ states.AliasAssign ∷ states.TypeParametersFirst ∷ states.TypeParametersNext ∷ states.TypeParametersMore ∷ states.SuiteFirst ∷ states.SuiteNext ∷ states.SuiteMore ∷ states.LastSuite ∷ states.HeaderTest ∷ states.LoopTargets ∷ states.LoopIn ∷ states.LoopOver ∷ states.ExceptFirst ∷ states.ExceptClass ∷ states.ExceptMore ∷ states.ExceptName ∷ states.WithNext ∷ states.WithMore ∷ states.BracketedWithFirst ∷ states.BracketedItem ∷ states.BracketedItemNext ∷ states.BracketedItemMore ∷ states.LastTarget ∷ states.DefName ∷ states.DefParameters ∷ states.DefBracket ∷ states.DefResult ∷ states.ParametersNext ∷ states.ParametersMore ∷ states.ParameterAnnotation ∷ states.ParameterDefault ∷ states.DefStarName ∷ states.DefDoubleStarName ∷ states.StarAnnotation ∷ states.ClassName ∷ states.ClassParameters ∷ states.ClassBracket ∷ states.AsyncFirst ∷ states.BracketedAsyncFirst ∷ states.LastNamed ∷ states.MatchSubject ∷ states.MatchColon ∷ states.CaseFirst ∷ states.CaseGuard ∷ states.LastNumber ∷ states.LastImaginary ∷ states.LastPattern ∷ states.LastCapturedName ∷ states.PatternRoundFirst ∷ states.PatternRoundStar ∷ states.PatternRoundNext ∷ states.PatternRoundMore ∷ states.PatternSquareNext ∷ states.PatternSquareMore ∷ states.PatternsNext ∷ states.PatternsMore ∷ states.MappingNext ∷ states.MappingMore ∷ states.MappingRest ∷ states.MappingClose ∷ states.ClassPatternNext ∷ states.ClassPatternMore ∷ states.OrNext ∷ states.OrMore ∷ []
 
 abbrev state_number : State → ℕ
 state_number states.Done = 0
@@ -196,32 +177,32 @@ state_number states.LastTerm = 10
 state_number states.LastFactor = 11
 state_number states.LastPrimary = 12
 state_number states.LastStarOperand = 13
-state_number states.EntryNext = 14
-state_number states.EntryMore = 15
-state_number states.TargetNext = 16
-state_number states.TargetMore = 17
-state_number states.ConditionalTest = 18
-state_number states.ConditionalElse = 19
-state_number states.Compared = 20
-state_number states.ComparedNot = 21
-state_number states.ComparedIs = 22
-state_number states.ComparedMore = 23
-state_number states.LinkNot = 24
-state_number states.LinkIs = 25
-state_number states.AttributeName = 26
-state_number states.CallFirst = 27
-state_number states.CallAfterFirst = 28
-state_number states.CallNext = 29
-state_number states.CallMore = 30
-state_number states.RoundClauses = 31
-state_number states.IndexFirst = 32
-state_number states.IndexMore = 33
-state_number states.IndexNext = 34
-state_number states.LambdaNext = 35
-state_number states.LambdaMore = 36
-state_number states.ParameterDefault = 37
-state_number states.StarParameterName = 38
-state_number states.DoubleStarName = 39
+state_number states.LastName = 14
+state_number states.LastIdentifier = 15
+state_number states.EntryNext = 16
+state_number states.EntryMore = 17
+state_number states.TargetNext = 18
+state_number states.TargetMore = 19
+state_number states.ConditionalTest = 20
+state_number states.ConditionalElse = 21
+state_number states.Compared = 22
+state_number states.ComparedNot = 23
+state_number states.ComparedIs = 24
+state_number states.ComparedMore = 25
+state_number states.LinkOperand = 26
+state_number states.LinkNot = 27
+state_number states.LinkIs = 28
+state_number states.CallFirst = 29
+state_number states.CallAfterFirst = 30
+state_number states.CallNext = 31
+state_number states.CallMore = 32
+state_number states.RoundClauses = 33
+state_number states.IndexFirst = 34
+state_number states.IndexMore = 35
+state_number states.IndexNext = 36
+state_number states.LambdaNext = 37
+state_number states.LambdaMore = 38
+state_number states.StarParameterName = 39
 state_number states.RoundFirst = 40
 state_number states.RoundClose = 41
 state_number states.RoundAfterFirst = 42
@@ -253,6 +234,97 @@ state_number states.FormatNext = 67
 state_number states.FBody = 68
 state_number states.StringsMore = 69
 state_number states.BytesMore = 70
+state_number states.StatementNext = 71
+state_number states.StatementMore = 72
+state_number states.AssignNext = 73
+state_number states.AssignMore = 74
+state_number states.AnnotationFirst = 75
+state_number states.AnnotationMore = 76
+state_number states.LastAssigned = 77
+state_number states.ReturnFirst = 78
+state_number states.RaiseFirst = 79
+state_number states.RaiseMore = 80
+state_number states.NameNext = 81
+state_number states.NameMore = 82
+state_number states.LastTargets = 83
+state_number states.AssertFirst = 84
+state_number states.AssertMore = 85
+state_number states.ImportNext = 86
+state_number states.ImportMore = 87
+state_number states.FromSource = 88
+state_number states.FromImport = 89
+state_number states.FromFirst = 90
+state_number states.FromNext = 91
+state_number states.FromMore = 92
+state_number states.FromBracketed = 93
+state_number states.FromBracketedMore = 94
+state_number states.FromBracketedNext = 95
+state_number states.DotsMore = 96
+state_number states.AliasParameters = 97
+state_number states.AliasAssign = 98
+state_number states.TypeParametersFirst = 99
+state_number states.TypeParametersNext = 100
+state_number states.TypeParametersMore = 101
+state_number states.SuiteFirst = 102
+state_number states.SuiteNext = 103
+state_number states.SuiteMore = 104
+state_number states.LastSuite = 105
+state_number states.HeaderTest = 106
+state_number states.LoopTargets = 107
+state_number states.LoopIn = 108
+state_number states.LoopOver = 109
+state_number states.ExceptFirst = 110
+state_number states.ExceptClass = 111
+state_number states.ExceptMore = 112
+state_number states.ExceptName = 113
+state_number states.WithNext = 114
+state_number states.WithMore = 115
+state_number states.BracketedWithFirst = 116
+state_number states.BracketedItem = 117
+state_number states.BracketedItemNext = 118
+state_number states.BracketedItemMore = 119
+state_number states.LastTarget = 120
+state_number states.DefName = 121
+state_number states.DefParameters = 122
+state_number states.DefBracket = 123
+state_number states.DefResult = 124
+state_number states.ParametersNext = 125
+state_number states.ParametersMore = 126
+state_number states.ParameterAnnotation = 127
+state_number states.ParameterDefault = 128
+state_number states.DefStarName = 129
+state_number states.DefDoubleStarName = 130
+state_number states.StarAnnotation = 131
+state_number states.ClassName = 132
+state_number states.ClassParameters = 133
+state_number states.ClassBracket = 134
+state_number states.AsyncFirst = 135
+state_number states.BracketedAsyncFirst = 136
+state_number states.LastNamed = 137
+state_number states.MatchSubject = 138
+state_number states.MatchColon = 139
+state_number states.CaseFirst = 140
+state_number states.CaseGuard = 141
+state_number states.LastNumber = 142
+state_number states.LastImaginary = 143
+state_number states.LastPattern = 144
+state_number states.LastCapturedName = 145
+state_number states.PatternRoundFirst = 146
+state_number states.PatternRoundStar = 147
+state_number states.PatternRoundNext = 148
+state_number states.PatternRoundMore = 149
+state_number states.PatternSquareNext = 150
+state_number states.PatternSquareMore = 151
+state_number states.PatternsNext = 152
+state_number states.PatternsMore = 153
+state_number states.MappingNext = 154
+state_number states.MappingMore = 155
+state_number states.MappingRest = 156
+state_number states.MappingClose = 157
+state_number states.ClassPatternNext = 158
+state_number states.ClassPatternMore = 159
+state_number states.OrNext = 160
+state_number states.OrMore = 161
 
 state_among : (x : State) → slice_get all_states (state_number x) ≡ Some x
 state_among states.Done = refl

@@ -19,11 +19,14 @@ use Rattle.py_grammar.specs.declared.words.Form.{Form}
 use Rattle.py_grammar.specs.declared.found.Found.{Found}
 use Rattle.py_grammar.specs.declared.found.Item.{Item}
 use Rattle.py_grammar.specs.declared.found.Item.TheVariants as items
-use Rattle.py_grammar.specs.Meaning.{of_word, of_tree, listed, named, words_of, is_tree_next, piece_span, first_from, last_to, kept, kept_one, mark_for, kind_for, said_for, assembled}
+use Rattle.py_grammar.specs.Meaning.{of_word, of_tree, listed, named, words_of, is_tree_next, piece_span, first_from, last_to, kept, kept_one, mark_for, leaf_of, is_name, said_leaf, kind_for, said_for, assembled}
 use Rattle.py_grammar.specs.declared.words.Terminal.{Terminal}
 use Rattle.py_grammar.specs.Terminal.{terminal}
-use Rattle.py_grammar.specs.Proper.{parts_proper, are_proper, are_targets, have_colon, kinds_of, binds_first}
-use Rattle.py_grammar.specs.Found.{capped, IsKnown, AllKnown, AreKnown, piece_at, pieces_at, trees_at, item_words, is_part_next, item_span, items_from, parts_proper_over, proper_over, target_over, colon_over, highest, Extends, is_item, word_in, leaf_of}
+use Rattle.py_grammar.specs.Table.{plain}
+use Rattle.py_grammar.specs.declared.order.Binding.{Binding}
+use Rattle.py_grammar.specs.declared.order.Binding.TheVariants as bindings
+use Rattle.py_grammar.specs.Proper.{parts_proper, are_proper, are_targets, are_assigned, have_colon, are_unreal, begins_unreal, begins_signed, is_faulty, kinds_of, binding}
+use Rattle.py_grammar.specs.Found.{capped, IsKnown, AllKnown, AreKnown, piece_at, pieces_at, trees_at, item_words, is_part_next, item_span, items_from, assigned_over, begins_unreal_over, begins_signed_over, faulty_over, signed_over, unreal_over, parts_proper_over, proper_over, target_over, colon_over, highest, Extends, is_item, word_in}
 
 pub Extends-refl : (a : Arena) → IsLinked a → Extends a a
 Extends-refl a h = record { grown = Grows-refl a; linked = h }
@@ -45,6 +48,8 @@ IsKnown-later old new x h g k =
       proper = rw same k.proper;
       target = rw same k.target;
       colon = rw same k.colon;
+      signed = rw same k.signed;
+      unreal = rw same k.unreal;
     }
 
 pub AllKnown-later : (old new : Arena) (xs : List Found) → IsLinked old → Extends old new → AllKnown old xs → AllKnown new xs
@@ -151,10 +156,32 @@ colons-listed : (a : Arena) (xs : List Found) → AllKnown a xs → have_colon (
 colons-listed a [] h = refl
 colons-listed a (x ∷ xs) h = rw (← h.0.colon, colons-listed a xs h.1) refl
 
-parts-listed : (a : Arena) (b : Bool) (xs : List Found) → AllKnown a xs → parts_proper b (listed (trees_at a xs)) ≡ parts_proper_over b xs
+unreal-listed : (a : Arena) (xs : List Found) → AllKnown a xs → are_unreal (listed (trees_at a xs)) ≡ list_any (λ x. x.unreal) xs
+unreal-listed a [] h = refl
+unreal-listed a (x ∷ xs) h = rw (← h.0.unreal, unreal-listed a xs h.1) refl
+
+begins_unreal-listed : (a : Arena) (xs : List Found) → AllKnown a xs → begins_unreal (listed (trees_at a xs)) ≡ begins_unreal_over xs
+begins_unreal-listed a [] h = refl
+begins_unreal-listed a (x ∷ xs) h = sym h.0.unreal
+
+begins_signed-listed : (a : Arena) (xs : List Found) → AllKnown a xs → begins_signed (listed (trees_at a xs)) ≡ begins_signed_over xs
+begins_signed-listed a [] h = refl
+begins_signed-listed a (x ∷ xs) h = sym h.0.signed
+
+assigned-listed : (a : Arena) (xs : List Found) → AllKnown a xs → are_assigned (listed (trees_at a xs)) ≡ assigned_over xs
+assigned-listed a [] h = refl
+assigned-listed a (x ∷ []) h = rw (← h.0.proper, ← h.0.kind) refl
+assigned-listed a (x ∷ y ∷ ys) h = rw (← h.0.target, assigned-listed a (y ∷ ys) h.1) refl
+
+parts-listed : (a : Arena) (b : Binding) (xs : List Found) → AllKnown a xs → parts_proper b (listed (trees_at a xs)) ≡ parts_proper_over b xs
 parts-listed a b [] h = refl
-parts-listed a true (x ∷ xs) h = rw (← h.0.target, proper-listed a xs h.1) refl
-parts-listed a false (x ∷ xs) h = rw (← h.0.proper, proper-listed a xs h.1) refl
+parts-listed a bindings.Nothing (x ∷ xs) h = rw (← h.0.proper, proper-listed a xs h.1) refl
+parts-listed a bindings.First (x ∷ xs) h = rw (← h.0.target, proper-listed a xs h.1) refl
+parts-listed a bindings.AllButFirst (x ∷ xs) h = rw (← h.0.proper, targets-listed a xs h.1) refl
+parts-listed a bindings.AllButLast (x ∷ xs) h = assigned-listed a (x ∷ xs) h
+
+faulty-listed : (a : Arena) (k : NodeKind) (xs : List Found) → AllKnown a xs → is_faulty k (listed (trees_at a xs)) ≡ faulty_over k xs
+faulty-listed a k xs h = rw (colons-listed a xs h, begins_unreal-listed a xs h) refl
 
 capped-max : (a b : ℕ) → max (capped a) (capped b) ≡ capped (max a b)
 capped-max a b = omega arith
@@ -171,8 +198,8 @@ pub height-over : (a : Arena) (xs : List Found) (h : ℕ) → AllKnown a xs → 
 height-over a xs h k e = omega (arith, e, fold-highest 0 xs, highest-listed a xs k)
 
 -- A NEW NODE OVER KNOWN PARTS IS KNOWN
-pub node_added : (old new : Arena) (n : Node) (x : Found) (xs : List Found) → IsLinked old → AllKnown old xs → IsNamed (length old.names) n.word → n.parts ≡ map (λ y. y.id) xs → new ≡ record old { nodes = old.nodes ++ n ∷ [] } → x.id.0 ≡ length old.nodes → x.kind ≡ n.kind → x.span ≡ n.span → x.height ≡ min (min (fold (λ m y. max m y.height) 0 xs) 256 + 1) 257 → x.proper ≡ proper_over n.kind xs → x.target ≡ target_over n.kind xs → x.colon ≡ colon_over n.kind xs → Extends old new × IsKnown new x × (tree_of new x.id ≡ node n.kind n.span (said old.names n.word) (listed (trees_at old xs)))
-node_added old new n x xs h k named_ ids e at kind_ span_ height_ proper_ target_ colon_ =
+pub node_added : (old new : Arena) (n : Node) (x : Found) (xs : List Found) → IsLinked old → AllKnown old xs → IsNamed (length old.names) n.word → n.parts ≡ map (λ y. y.id) xs → new ≡ record old { nodes = old.nodes ++ n ∷ [] } → x.id.0 ≡ length old.nodes → x.kind ≡ n.kind → x.span ≡ n.span → x.height ≡ min (min (fold (λ m y. max m y.height) 0 xs) 256 + 1) 257 → x.proper ≡ proper_over n.kind xs → x.target ≡ target_over n.kind xs → x.colon ≡ colon_over n.kind xs → x.signed ≡ signed_over n.kind xs → x.unreal ≡ unreal_over n.kind xs → Extends old new × IsKnown new x × (tree_of new x.id ≡ node n.kind n.span (said old.names n.word) (listed (trees_at old xs)))
+node_added old new n x xs h k named_ ids e at kind_ span_ height_ proper_ target_ colon_ signed_ unreal_ =
     let older : AreOlder (length old.nodes) n.parts = rw ids (older-ids old xs k) in
     let plain : tree_of (record old { nodes = old.nodes ++ n ∷ [] }) x.id ≡ node n.kind n.span (said old.names n.word) (listed (trees_at old xs)) = tree_of-new old n x.id at ∙ rw (ids, parts_at-listed old xs) refl in
     let tree : tree_of new x.id ≡ node n.kind n.span (said old.names n.word) (listed (trees_at old xs)) = rw e plain in (
@@ -182,9 +209,11 @@ node_added old new n x xs h k named_ ids e at kind_ span_ height_ proper_ target
         kind = rw tree kind_;
         span = rw tree span_;
         height = rw tree (height-over old xs x.height k height_);
-        proper = rw tree (rw (parts-listed old (binds_first n.kind) xs k, kinds-listed old xs k, colons-listed old xs k) proper_);
+        proper = rw tree (rw (parts-listed old (binding n.kind) xs k, kinds-listed old xs k, faulty-listed old n.kind xs k) proper_);
         target = rw tree (rw (proper-listed old xs k, targets-listed old xs k) target_);
         colon = rw tree (rw (colons-listed old xs k) colon_);
+        signed = rw tree (rw (kinds-listed old xs k) signed_);
+        unreal = rw tree (rw (begins_signed-listed old xs k, unreal-listed old xs k) unreal_);
       },
       tree,
     )
@@ -195,14 +224,14 @@ keep_part a ps new item f x b e k h n =
     let known : AreKnown a (items.Part x ∷ []) = rw e at k in
     rw (n, e) (AllKnown-append a ps (x ∷ []) h (known.0, tt), map-append (λ (y : Found). tree_of a y.id) ps (x ∷ []))
 
-pub keep_none : (a : Arena) (ps : List Found) (item : Item) (f : Form) (w : Bor Token) (t : Terminal) (b c : Bool) → item ≡ items.Word w → t ≡ terminal w.now → c ≡ b → None ≡ mark_for f t c → AllKnown a ps → AllKnown a ps × (trees_at a ps ≡ trees_at a ps ++ kept_one f (piece_at a item) b)
+pub keep_none : (a : Arena) (ps : List Found) (item : Item) (f : Form) (w : Bor Token) (t : Terminal) (b c : Bool) → item ≡ items.Word w → t ≡ plain (terminal w.now) → c ≡ b → None ≡ mark_for f t c → AllKnown a ps → AllKnown a ps × (trees_at a ps ≡ trees_at a ps ++ kept_one f (piece_at a item) b)
 keep_none a ps item f w t b c e s d m h =
-    let none : mark_for f (terminal w.now) b ≡ None = rw (s, d) at (sym m) in
+    let none : mark_for f (plain (terminal w.now)) b ≡ None = rw (s, d) at (sym m) in
     (h, rw (e, none) (sym (append-nil (trees_at a ps))))
 
-pub keep_leaf : (a a2 : Arena) (ps new : List Found) (item : Item) (f : Form) (w : Bor Token) (k : NodeKind) (x : Found) (t : Terminal) (b c : Bool) → item ≡ items.Word w → t ≡ terminal w.now → c ≡ b → Some k ≡ mark_for f t c → IsLinked a → Extends a a2 → IsKnown a2 x → tree_of a2 x.id ≡ leaf_of k w.now → AllKnown a ps → new ≡ ps ++ x ∷ [] → AllKnown a2 new × (trees_at a2 new ≡ trees_at a ps ++ kept_one f (piece_at a item) b)
+pub keep_leaf : (a a2 : Arena) (ps new : List Found) (item : Item) (f : Form) (w : Bor Token) (k : NodeKind) (x : Found) (t : Terminal) (b c : Bool) → item ≡ items.Word w → t ≡ plain (terminal w.now) → c ≡ b → Some k ≡ mark_for f t c → IsLinked a → Extends a a2 → IsKnown a2 x → tree_of a2 x.id ≡ leaf_of k w.now → AllKnown a ps → new ≡ ps ++ x ∷ [] → AllKnown a2 new × (trees_at a2 new ≡ trees_at a ps ++ kept_one f (piece_at a item) b)
 keep_leaf a a2 ps new item f w k x t b c e s d m l g known leaf h n =
-    let some : mark_for f (terminal w.now) b ≡ Some k = rw (s, d) at (sym m) in
+    let some : mark_for f (plain (terminal w.now)) b ≡ Some k = rw (s, d) at (sym m) in
     let trees_ : trees_at a2 (ps ++ x ∷ []) ≡ trees_at a ps ++ leaf_of k w.now ∷ [] = map-append (λ (y : Found). tree_of a2 y.id) ps (x ∷ []) ∙ ap (λ ts. ts ++ tree_of a2 x.id ∷ []) (trees_at-later a a2 ps l g h) ∙ ap (λ t. trees_at a ps ++ t ∷ []) leaf in
     rw (n, e, some) (AllKnown-append a2 ps (x ∷ []) (AllKnown-later a a2 ps l g h) (known, tt), trees_)
 
@@ -251,3 +280,8 @@ assembled_is old t1 t2 f xs w vs k s l g1 g2 h said_ named_ kept_ kind_ span_ =
 
 pub named-later : (t1 t2 : Arena) (w : Word) → Extends t1 t2 → IsNamed (length t1.names) w → IsNamed (length t2.names) w
 named-later t1 t2 w g h = IsNamed-later (length t1.names) (length t2.names) w (Grows-names t1 t2 g.grown) h
+
+-- the word of a leaf that is a name
+pub leaf_said : (new : Arena) (text : List ℕ) (id : NameId) (k : NodeKind) (w : Token) → true ≡ is_name k → text ≡ w.text → slice_get new.names id.0 ≡ Some text → (said new.names (words.Name id) ≡ said_leaf k w) × (id.0 < length new.names)
+leaf_said new text id k w e same stored =
+    (rw (← e, ← same) (ap (λ t. name t) (get_or_from_slice_get new.names id.0 text [] stored)), slice_get_within new.names id.0 text stored)

@@ -4,5 +4,6 @@ pub mod Complete
 pub mod Sound
 pub mod OrderLemmas
 pub mod KnownLemmas
+pub mod KeepsLemmas
 pub mod Partway
 pub mod Exact

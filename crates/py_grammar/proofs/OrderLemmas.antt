@@ -1,5 +1,6 @@
 -- Entries in order, read from left to right.
-use Rattle.std.proofs.Common.{◌≡◌, ℕ, max, Bool, true, false, not, ◌&&◌, ◌||◌, nat_lt, List, [], ◌∷◌, map, refl, sym, ◌∙◌, arith}
+use Rattle.std.proofs.Common.{◌≡◌, ℕ, max, Bool, true, false, not, ◌&&◌, ◌||◌, ◌-◌, nat_lt, List, [], ◌∷◌, length, take, map, refl, sym, ◌∙◌, arith}
+use Rattle.std.proofs.lemmas.List.{take-map, length-map}
 use Rattle.std.specs.List.{list_all}
 use Rattle.std.proofs.lemmas.Bool.{ltb-true, ltb-false, lt-ltb, le-ltb}
 use Rattle.std.proofs.lemmas.List.Folds.{list_all-map}
@@ -8,7 +9,7 @@ use Rattle.py_base.specs.declared.node.NodeKind.TheVariants as kinds
 use Rattle.py_grammar.specs.declared.found.Found.{Found}
 use Rattle.py_grammar.specs.declared.order.Order.{Order}
 use Rattle.py_grammar.specs.declared.order.Order.TheVariants as orders
-use Rattle.py_grammar.specs.Proper.{are_ordered, grade_for, bar_for, entries_fit, is_neutral, is_dict_entry}
+use Rattle.py_grammar.specs.Proper.{are_ordered, grade_for, bar_for, parameters_fit, without_last, entries_fit, is_neutral, is_dict_entry}
 
 -- the entries are in order behind others of which the highest has this grade
 abbrev pub scan : (NodeKind → ℕ) → (NodeKind → ℕ) → ℕ → List NodeKind → Bool
@@ -50,6 +51,10 @@ bar_positive orders.Arguments kinds.Fault = refl
 bar_positive orders.Arguments _ = refl
 bar_positive orders.Parameters kinds.Fault = refl
 bar_positive orders.Parameters _ = refl
+bar_positive orders.SequencePatterns kinds.Fault = refl
+bar_positive orders.SequencePatterns _ = refl
+bar_positive orders.ClassPatterns kinds.Fault = refl
+bar_positive orders.ClassPatterns _ = refl
 
 all_positive : (o : Order) (ks : List NodeKind) → list_all (λ l. nat_lt 0 (bar_for o l)) ks ≡ true
 all_positive o [] = refl
@@ -63,3 +68,10 @@ entries-dict x xs all first e = rw (first, e) (sym (list_all-map (λ l. is_neutr
 
 pub entries-set : (x : Found) (xs all : List Found) → all ≡ x ∷ xs → is_dict_entry x.kind ≡ false → list_all (λ y. is_neutral y.kind || not (is_dict_entry y.kind)) xs ≡ entries_fit (map (λ y. y.kind) all)
 entries-set x xs all first e = rw (first, e) (sym (list_all-map (λ l. is_neutral l || not (is_dict_entry l)) (λ (y : Found). y.kind) xs))
+
+pub lambda-empty : (xs : List Found) → length xs ≡ 0 → true ≡ parameters_fit (without_last (map (λ x. x.kind) xs))
+lambda-empty [] e = refl
+lambda-empty (x ∷ xs) e = absurd (omega arith)
+
+pub lambda-some : (xs : List Found) → parameters_fit (map (λ x. x.kind) (take (length xs - 1) xs)) ≡ parameters_fit (without_last (map (λ x. x.kind) xs))
+lambda-some xs = rw (length-map xs (λ (x : Found). x.kind), take-map (λ (x : Found). x.kind) (length xs - 1) xs) refl

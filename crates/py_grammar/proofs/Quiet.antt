@@ -18,81 +18,355 @@ use Rattle.py_grammar.specs.Reading.{Among, here, there}
 use Rattle.py_grammar.specs.Parse.{reaches, begins, goes_on, place_at}
 use Rattle.py_grammar.proofs.Finite.{every, every_at, implies, if_some, all_terminals, all_forms, all_needs, all_states, each_terminal, each_form, each_need, each_state, implied, at_some}
 
-abbrev pub is_empty : {A : Type 0} → List A → Bool
-is_empty [] = true
-is_empty (x ∷ xs) = false
+-- The tokens with which an expression goes on, or its right edge, by how tightly they bind.
+abbrev goes_on_atom : Terminal → Bool
+goes_on_atom terminals.Str = true
+goes_on_atom terminals.BytesStr = true
+goes_on_atom terminals.FStart = true
+goes_on_atom _ = false
 
--- the need whose trees end as those of a need do
-abbrev pub ends_like : Need → Need
-ends_like needs.YieldValue = needs.Expressions
-ends_like needs.Link = needs.BitOr
-ends_like needs.Clause = needs.Disjunction
-ends_like needs.FurtherClause = needs.Disjunction
-ends_like needs.StarredEntry = needs.StarOperand
-ends_like needs.DoubleStarredEntry = needs.BitOr
-ends_like needs.UnpackedArgument = needs.Expression
-ends_like needs.Parameter = needs.Expression
-ends_like n = n
+abbrev goes_on_primary : Terminal → Bool
+goes_on_primary terminals.OpenRound = true
+goes_on_primary terminals.OpenSquare = true
+goes_on_primary terminals.Dot = true
+goes_on_primary k = goes_on_atom k
 
--- tokens that end a tree, or go on from it, beside what the joints say
-abbrev pub stops_besides : Need → Terminal → Bool → Bool
-stops_besides needs.YieldValue terminals.From b = false
-stops_besides needs.Parameter terminals.Assign b = false
-stops_besides needs.Format terminals.FText b = false
-stops_besides needs.Field terminals.OpenCurly b = true
-stops_besides n terminals.For b = true
-stops_besides n terminals.Async b = true
-stops_besides n k b = b
+abbrev goes_on_power : Terminal → Bool
+goes_on_power terminals.DoubleStar = true
+goes_on_power k = goes_on_primary k
 
-abbrev pub stops_plainly : Need → Terminal → Bool
-stops_plainly n k = not (list_any (λ j. reaches n j.form) (joins k)) && (not (is_empty (joins k)) || is_empty (opens k))
+abbrev goes_on_product : Terminal → Bool
+goes_on_product terminals.Star = true
+goes_on_product terminals.Slash = true
+goes_on_product terminals.Times = true
+goes_on_product terminals.At = true
+goes_on_product k = goes_on_power k
+
+abbrev goes_on_sum : Terminal → Bool
+goes_on_sum terminals.Plus = true
+goes_on_sum terminals.Minus = true
+goes_on_sum k = goes_on_product k
+
+abbrev goes_on_shift : Terminal → Bool
+goes_on_shift terminals.Shift = true
+goes_on_shift k = goes_on_sum k
+
+abbrev goes_on_bit_and : Terminal → Bool
+goes_on_bit_and terminals.Ampersand = true
+goes_on_bit_and k = goes_on_shift k
+
+abbrev goes_on_bit_xor : Terminal → Bool
+goes_on_bit_xor terminals.Caret = true
+goes_on_bit_xor k = goes_on_bit_and k
+
+abbrev goes_on_bit_or : Terminal → Bool
+goes_on_bit_or terminals.Bar = true
+goes_on_bit_or k = goes_on_bit_xor k
+
+abbrev goes_on_comparison : Terminal → Bool
+goes_on_comparison terminals.In = true
+goes_on_comparison terminals.Is = true
+goes_on_comparison terminals.Not = true
+goes_on_comparison terminals.Compare = true
+goes_on_comparison k = goes_on_bit_or k
+
+abbrev goes_on_and : Terminal → Bool
+goes_on_and terminals.And = true
+goes_on_and k = goes_on_comparison k
+
+abbrev goes_on_or : Terminal → Bool
+goes_on_or terminals.Or = true
+goes_on_or k = goes_on_and k
+
+abbrev goes_on_conditional : Terminal → Bool
+goes_on_conditional terminals.If = true
+goes_on_conditional k = goes_on_or k
+
+abbrev goes_on_named : Terminal → Bool
+goes_on_named terminals.Walrus = true
+goes_on_named k = goes_on_conditional k
+
+-- The tokens that stand behind other parts.
+-- behind a line or a header
+abbrev ends_line : Terminal → Bool
+ends_line terminals.End = true
+ends_line _ = false
+
+-- behind a simple statement
+abbrev ends_statement : Terminal → Bool
+ends_statement terminals.Semicolon = true
+ends_statement terminals.End = true
+ends_statement _ = false
+
+-- behind an entry in brackets
+abbrev ends_entry : Terminal → Bool
+ends_entry terminals.CloseRound = true
+ends_entry terminals.CloseSquare = true
+ends_entry terminals.CloseCurly = true
+ends_entry terminals.Comma = true
+ends_entry terminals.End = true
+ends_entry _ = false
+
+-- behind expressions without brackets
+abbrev ends_value : Terminal → Bool
+ends_value terminals.FConversion = true
+ends_value terminals.CloseRound = true
+ends_value terminals.CloseCurly = true
+ends_value terminals.Colon = true
+ends_value terminals.Semicolon = true
+ends_value terminals.Assign = true
+ends_value terminals.End = true
+ends_value _ = false
+
+-- behind an item of a header or an import
+abbrev ends_item : Terminal → Bool
+ends_item terminals.CloseRound = true
+ends_item terminals.Comma = true
+ends_item terminals.Colon = true
+ends_item terminals.Semicolon = true
+ends_item terminals.End = true
+ends_item _ = false
+
+-- behind the pattern of a case
+abbrev ends_case : Terminal → Bool
+ends_case terminals.If = true
+ends_case terminals.Colon = true
+ends_case terminals.End = true
+ends_case _ = false
+
+-- behind targets
+abbrev ends_targets : Terminal → Bool
+ends_targets terminals.In = true
+ends_targets terminals.Semicolon = true
+ends_targets terminals.End = true
+ends_targets _ = false
+
+-- behind an operator of a chain stands all but `not`
+abbrev ends_link : Terminal → Bool
+ends_link terminals.Not = false
+ends_link _ = true
+
+-- behind an argument
+abbrev ends_argument : Terminal → Bool
+ends_argument terminals.Async = true
+ends_argument terminals.For = true
+ends_argument terminals.CloseRound = true
+ends_argument terminals.Comma = true
+ends_argument terminals.End = true
+ends_argument _ = false
+
+-- behind a pattern in a sequence
+abbrev ends_pattern : Terminal → Bool
+ends_pattern terminals.If = true
+ends_pattern terminals.CloseRound = true
+ends_pattern terminals.CloseSquare = true
+ends_pattern terminals.Comma = true
+ends_pattern terminals.Colon = true
+ends_pattern terminals.End = true
+ends_pattern _ = false
+
+-- behind an entry in curly brackets
+abbrev ends_element : Terminal → Bool
+ends_element terminals.Async = true
+ends_element terminals.For = true
+ends_element terminals.CloseCurly = true
+ends_element terminals.Comma = true
+ends_element terminals.End = true
+ends_element _ = false
+
+-- behind the format of a field
+abbrev ends_format : Terminal → Bool
+ends_format terminals.CloseCurly = true
+ends_format terminals.End = true
+ends_format _ = false
+
+-- behind the source of an import
+abbrev ends_source : Terminal → Bool
+ends_source terminals.Import = true
+ends_source terminals.End = true
+ends_source _ = false
+
+-- behind a parameter of a lambda
+abbrev ends_parameter : Terminal → Bool
+ends_parameter terminals.Comma = true
+ends_parameter terminals.Colon = true
+ends_parameter terminals.End = true
+ends_parameter _ = false
 
 -- a token behind a tree that was read for a need, which ends it
 abbrev pub stops : Need → Terminal → Bool
-stops n k = stops_besides n k (stops_plainly (ends_like n) k)
+stops needs.Expressions k = ends_value k
+stops needs.Named k = not (goes_on_named k)
+stops needs.Expression k = not (goes_on_conditional k)
+stops needs.Disjunction k = not (goes_on_or k)
+stops needs.Conjunction k = not (goes_on_and k)
+stops needs.Inversion k = not (goes_on_comparison k)
+stops needs.Comparison k = not (goes_on_comparison k)
+stops needs.BitOr k = not (goes_on_bit_or k)
+stops needs.BitXor k = not (goes_on_bit_xor k)
+stops needs.BitAnd k = not (goes_on_bit_and k)
+stops needs.Shift k = not (goes_on_shift k)
+stops needs.Sum k = not (goes_on_sum k)
+stops needs.Term k = not (goes_on_product k)
+stops needs.Factor k = not (goes_on_power k)
+stops needs.Power k = not (goes_on_power k)
+stops needs.Await k = not (goes_on_primary k)
+stops needs.Primary k = not (goes_on_primary k)
+stops needs.Atom k = not (goes_on_atom k)
+stops needs.Entry k = not (goes_on_conditional k)
+stops needs.StarredEntry k = not (goes_on_bit_or k)
+stops needs.StarOperand k = not (goes_on_bit_or k)
+stops needs.Element k = not (goes_on_named k)
+stops needs.CurlyEntry k = ends_element k
+stops needs.DoubleStarredEntry k = not (goes_on_bit_or k)
+stops needs.CurlyElement k = ends_entry k
+stops needs.Argument k = ends_argument k
+stops needs.UnpackedArgument k = not (goes_on_conditional k)
+stops needs.AnyArgument k = ends_entry k
+stops needs.IndexEntry k = ends_entry k
+stops needs.Target k = not (goes_on_bit_or k)
+stops needs.TargetList k = ends_targets k
+stops needs.Clause k = not (goes_on_or k)
+stops needs.FurtherClause k = not (goes_on_or k)
+stops needs.Parameter k = ends_parameter k
+stops needs.Link k = ends_link k
+stops needs.YieldValue k = ends_value k
+stops needs.Format k = ends_format k
+stops needs.Line k = ends_line k
+stops needs.KeywordLine k = ends_line k
+stops needs.SimpleStatement k = ends_statement k
+stops needs.AssignedPart k = ends_value k
+stops needs.AssignedValue k = ends_statement k
+stops needs.Reference k = not (goes_on_primary k)
+stops needs.DottedName k = not (goes_on_primary k)
+stops needs.Source k = ends_source k
+stops needs.ImportItem k = ends_item k
+stops needs.FromItem k = ends_item k
+stops needs.TypeParameter k = ends_entry k
+stops needs.Suite k = ends_line k
+stops needs.WithEntry k = ends_item k
+stops needs.DefParameter k = ends_entry k
+stops needs.Result k = not (goes_on_conditional k)
+stops needs.AsyncHeader k = ends_line k
+stops needs.BracketedWith k = ends_line k
+stops needs.Subject k = ends_value k
+stops needs.ClosedPattern k = not (goes_on_sum k)
+stops needs.Alternatives k = not (goes_on_bit_or k)
+stops needs.Pattern k = ends_entry k
+stops needs.PatternEntry k = ends_pattern k
+stops needs.CasePattern k = ends_case k
+stops needs.PatternKey k = not (goes_on_sum k)
+stops needs.PatternItem k = ends_entry k
+stops needs.ClassEntry k = ends_entry k
+stops _ k = true
 
 -- a token behind the form that continues no part at its right edge, from a place on
 abbrev pub quiet : State → Terminal → Bool
-quiet states.LastExpression k = stops needs.Expression k
-quiet states.LastDisjunction k = stops needs.Disjunction k
-quiet states.LastConjunction k = stops needs.Conjunction k
-quiet states.LastInversion k = stops needs.Inversion k
-quiet states.LastBitOr k = stops needs.BitOr k
-quiet states.LastBitXor k = stops needs.BitXor k
-quiet states.LastBitAnd k = stops needs.BitAnd k
-quiet states.LastShift k = stops needs.Shift k
-quiet states.LastSum k = stops needs.Sum k
-quiet states.LastTerm k = stops needs.Term k
-quiet states.LastFactor k = stops needs.Factor k
-quiet states.LastPrimary k = stops needs.Primary k
-quiet states.LastStarOperand k = stops needs.StarOperand k
-quiet states.EntryNext k = stops needs.Entry k && is_none (edge states.EntryMore k)
-quiet states.EntryMore k = stops needs.Entry k && is_none (edge states.EntryMore k)
-quiet states.TargetNext k = stops needs.Target k && is_none (edge states.TargetMore k)
-quiet states.TargetMore k = stops needs.Target k && is_none (edge states.TargetMore k)
-quiet states.ConditionalTest k = stops needs.Expression k
-quiet states.ConditionalElse k = stops needs.Expression k
-quiet states.Compared k = stops needs.BitOr k && is_none (begins needs.Link k)
-quiet states.ComparedNot k = stops needs.BitOr k && is_none (begins needs.Link k)
-quiet states.ComparedIs k = stops needs.BitOr k && is_none (begins needs.Link k)
-quiet states.ComparedMore k = stops needs.BitOr k && is_none (begins needs.Link k)
-quiet states.LinkNot k = stops needs.BitOr k
-quiet states.LinkIs k = stops needs.BitOr k
-quiet states.LambdaNext k = stops needs.Expression k
-quiet states.LambdaMore k = stops needs.Expression k
-quiet states.ParameterDefault k = stops needs.Parameter k
-quiet states.StarParameterName k = is_none (edge states.StarParameterName k)
-quiet states.AsyncFor k = stops needs.Disjunction k
-quiet states.ForTargets k = stops needs.Disjunction k
-quiet states.ForIn k = stops needs.Disjunction k
-quiet states.SliceFirst k = stops needs.Expression k && is_none (edge states.SliceSecond k)
-quiet states.SliceSecond k = stops needs.Expression k && is_none (edge states.SliceSecond k)
-quiet states.SliceStep k = stops needs.Expression k
-quiet states.YieldFirst k = stops needs.YieldValue k
-quiet states.FormatNext k = stops needs.Format k
-quiet states.FBody k = is_none (edge states.StringsMore k)
-quiet states.StringsMore k = is_none (edge states.StringsMore k)
-quiet states.BytesMore k = is_none (edge states.BytesMore k)
+quiet states.LastExpression k = not (goes_on_conditional k)
+quiet states.LastDisjunction k = not (goes_on_or k)
+quiet states.LastConjunction k = not (goes_on_and k)
+quiet states.LastInversion k = not (goes_on_comparison k)
+quiet states.LastBitOr k = not (goes_on_bit_or k)
+quiet states.LastBitXor k = not (goes_on_bit_xor k)
+quiet states.LastBitAnd k = not (goes_on_bit_and k)
+quiet states.LastShift k = not (goes_on_shift k)
+quiet states.LastSum k = not (goes_on_sum k)
+quiet states.LastTerm k = not (goes_on_product k)
+quiet states.LastFactor k = not (goes_on_power k)
+quiet states.LastPrimary k = not (goes_on_primary k)
+quiet states.LastStarOperand k = not (goes_on_bit_or k)
+quiet states.EntryNext k = ends_value k
+quiet states.EntryMore k = ends_value k
+quiet states.TargetNext k = ends_targets k
+quiet states.TargetMore k = ends_targets k
+quiet states.ConditionalTest k = not (goes_on_conditional k)
+quiet states.ConditionalElse k = not (goes_on_conditional k)
+quiet states.Compared k = not (goes_on_comparison k)
+quiet states.ComparedNot k = not (goes_on_comparison k)
+quiet states.ComparedIs k = not (goes_on_comparison k)
+quiet states.ComparedMore k = not (goes_on_comparison k)
+quiet states.LinkOperand k = not (goes_on_comparison k)
+quiet states.LinkIs k = ends_link k
+quiet states.LambdaNext k = not (goes_on_conditional k)
+quiet states.LambdaMore k = not (goes_on_conditional k)
+quiet states.StarParameterName k = ends_parameter k
+quiet states.AsyncFor k = not (goes_on_or k)
+quiet states.ForTargets k = not (goes_on_or k)
+quiet states.ForIn k = not (goes_on_or k)
+quiet states.SliceFirst k = ends_entry k
+quiet states.SliceSecond k = ends_entry k
+quiet states.SliceStep k = ends_entry k
+quiet states.YieldFirst k = ends_value k
+quiet states.FormatNext k = ends_format k
+quiet states.FBody k = not (goes_on_atom k)
+quiet states.StringsMore k = not (goes_on_atom k)
+quiet states.BytesMore k = not (goes_on_atom k)
+quiet states.StatementNext k = ends_line k
+quiet states.StatementMore k = ends_line k
+quiet states.AssignNext k = ends_statement k
+quiet states.AssignMore k = ends_statement k
+quiet states.AnnotationFirst k = ends_statement k
+quiet states.AnnotationMore k = ends_statement k
+quiet states.LastAssigned k = ends_statement k
+quiet states.ReturnFirst k = ends_statement k
+quiet states.RaiseFirst k = ends_statement k
+quiet states.RaiseMore k = ends_statement k
+quiet states.NameNext k = ends_statement k
+quiet states.NameMore k = ends_statement k
+quiet states.LastTargets k = ends_statement k
+quiet states.AssertFirst k = ends_statement k
+quiet states.AssertMore k = ends_statement k
+quiet states.ImportNext k = ends_statement k
+quiet states.ImportMore k = ends_statement k
+quiet states.FromSource k = ends_statement k
+quiet states.FromImport k = ends_statement k
+quiet states.FromFirst k = ends_statement k
+quiet states.FromNext k = ends_statement k
+quiet states.FromMore k = ends_statement k
+quiet states.DotsMore k = ends_source k
+quiet states.AliasParameters k = not (goes_on_conditional k)
+quiet states.AliasAssign k = not (goes_on_conditional k)
+quiet states.SuiteFirst k = ends_line k
+quiet states.SuiteNext k = ends_line k
+quiet states.SuiteMore k = ends_line k
+quiet states.LastSuite k = ends_line k
+quiet states.HeaderTest k = ends_line k
+quiet states.LoopTargets k = ends_line k
+quiet states.LoopIn k = ends_line k
+quiet states.LoopOver k = ends_line k
+quiet states.ExceptFirst k = ends_line k
+quiet states.ExceptClass k = ends_line k
+quiet states.ExceptMore k = ends_line k
+quiet states.ExceptName k = ends_line k
+quiet states.WithNext k = ends_line k
+quiet states.WithMore k = ends_line k
+quiet states.BracketedWithFirst k = ends_line k
+quiet states.BracketedItem k = ends_line k
+quiet states.BracketedItemNext k = ends_line k
+quiet states.BracketedItemMore k = ends_line k
+quiet states.LastTarget k = not (goes_on_bit_or k)
+quiet states.DefName k = ends_line k
+quiet states.DefParameters k = ends_line k
+quiet states.DefBracket k = ends_line k
+quiet states.DefResult k = ends_line k
+quiet states.ParameterAnnotation k = ends_entry k
+quiet states.ParameterDefault k = ends_entry k
+quiet states.DefStarName k = ends_entry k
+quiet states.DefDoubleStarName k = ends_entry k
+quiet states.StarAnnotation k = ends_entry k
+quiet states.ClassName k = ends_line k
+quiet states.ClassParameters k = ends_line k
+quiet states.ClassBracket k = ends_line k
+quiet states.AsyncFirst k = ends_line k
+quiet states.BracketedAsyncFirst k = ends_line k
+quiet states.LastNamed k = not (goes_on_named k)
+quiet states.CaseFirst k = ends_line k
+quiet states.CaseGuard k = ends_line k
+quiet states.LastPattern k = ends_entry k
+quiet states.PatternsNext k = ends_case k
+quiet states.PatternsMore k = ends_case k
+quiet states.OrNext k = not (goes_on_bit_or k)
+quiet states.OrMore k = not (goes_on_bit_or k)
 quiet _ k = true
 
 -- The tests. What reaches a need at the left edge of its trees:

@@ -1,7 +1,7 @@
 -- The tree of a reading: what is kept of the tokens. A node has the kind of its form, the span from its first to its last token, what
--- its words say, and its parts; a last comma and the colons of a slice are leaves of their own; brackets and other marks leave nothing
--- but their node (Python 3.12 language reference, section 6; what is kept is this project's own).
-use Rattle.std.specs.Prelude.{ℕ, ◌==◌, Bool, true, false, is_some, fold, find, if◌then◌else◌, ℤ, Option, Some, None, List, [], ◌∷◌, ◌++◌, codes}
+-- its words say, and its parts; a last comma, the colons of a slice, the dots of a source and some names are leaves of their own; brackets
+-- and other marks leave nothing but their node (Python 3.12 language reference, sections 6 to 8; what is kept is this project's own).
+use Rattle.std.specs.Prelude.{ℕ, ◌==◌, Bool, true, false, not, ◌&&◌, is_some, fold, find, if◌then◌else◌, ℤ, Option, Some, None, List, [], ◌∷◌, ◌++◌, codes}
 use Rattle.py_base.specs.declared.span.Span.{Span}
 use Rattle.py_base.specs.declared.node.NodeKind.{NodeKind}
 use Rattle.py_base.specs.declared.node.NodeKind.TheVariants as kinds
@@ -18,7 +18,7 @@ use Rattle.py_grammar.specs.declared.words.Form.{Form}
 use Rattle.py_grammar.specs.declared.words.Form.TheVariants as forms
 use Rattle.py_grammar.specs.declared.words.Terminal.{Terminal}
 use Rattle.py_grammar.specs.declared.words.Terminal.TheVariants as terminals
-use Rattle.py_grammar.specs.Table.{number}
+use Rattle.py_grammar.specs.Table.{number, plain}
 use Rattle.py_grammar.specs.Terminal.{terminal, lookup, first_of}
 use Rattle.py_grammar.specs.Reading.{Reading, opened, joined, Parts, no_more, word, part}
 
@@ -33,13 +33,13 @@ words_of (of_word w ∷ xs) = w ∷ words_of xs
 words_of (of_tree t ∷ xs) = words_of xs
 
 abbrev pub is_word : Terminal → Token → Bool
-is_word k w = number (terminal w) == number k
+is_word k w = number (plain (terminal w)) == number k
 
 -- whether one of the words is this terminal
 abbrev pub has_word : Terminal → List Token → Bool
 has_word k ws = is_some (find (is_word k) ws)
 
--- The kinds: that of the form, and two that hang on a further word.
+-- The kinds: that of the form, and some that hang on a further word.
 abbrev pub kind_of_form : Form → NodeKind
 kind_of_form forms.Entries = kinds.Entries
 kind_of_form forms.Named = kinds.Named
@@ -62,6 +62,8 @@ kind_of_form forms.Attribute = kinds.Attribute
 kind_of_form forms.Call = kinds.Call
 kind_of_form forms.Subscript = kinds.Subscript
 kind_of_form forms.Name = kinds.Name
+kind_of_form forms.TypeName = kinds.Name
+kind_of_form forms.Underscore = kinds.Name
 kind_of_form forms.Int = kinds.Int
 kind_of_form forms.Float = kinds.Float
 kind_of_form forms.Imaginary = kinds.Imaginary
@@ -94,11 +96,87 @@ kind_of_form forms.DoubleStarParameter = kinds.DoubleStarParameter
 kind_of_form forms.Yield = kinds.Yield
 kind_of_form forms.Field = kinds.Field
 kind_of_form forms.Format = kinds.Format
+kind_of_form forms.Statements = kinds.Statements
+kind_of_form forms.Assign = kinds.Assign
+kind_of_form forms.AnnotatedAssign = kinds.AnnotatedAssign
+kind_of_form forms.AugmentedAssign = kinds.AugmentedAssign
+kind_of_form forms.Pass = kinds.Pass
+kind_of_form forms.Break = kinds.Break
+kind_of_form forms.Continue = kinds.Continue
+kind_of_form forms.Return = kinds.Return
+kind_of_form forms.Raise = kinds.Raise
+kind_of_form forms.Global = kinds.Global
+kind_of_form forms.Nonlocal = kinds.Nonlocal
+kind_of_form forms.Del = kinds.Del
+kind_of_form forms.Assert = kinds.Assert
+kind_of_form forms.Import = kinds.Import
+kind_of_form forms.ImportFrom = kinds.ImportFrom
+kind_of_form forms.DottedName = kinds.Attribute
+kind_of_form forms.RelativeSource = kinds.RelativeSource
+kind_of_form forms.Alias = kinds.Alias
+kind_of_form forms.FromAlias = kinds.Alias
+kind_of_form forms.TypeAlias = kinds.TypeAlias
+kind_of_form forms.TypeParameters = kinds.TypeParameters
+kind_of_form forms.TypeParameter = kinds.TypeParameter
+kind_of_form forms.StarTypeParameter = kinds.StarTypeParameter
+kind_of_form forms.DoubleStarTypeParameter = kinds.DoubleStarTypeParameter
+kind_of_form forms.Parameters = kinds.Parameters
+kind_of_form forms.AnnotatedParameter = kinds.AnnotatedParameter
+kind_of_form forms.DefStarParameter = kinds.StarParameter
+kind_of_form forms.DefDoubleStarParameter = kinds.DoubleStarParameter
+kind_of_form forms.Result = kinds.Result
+kind_of_form forms.Arguments = kinds.Arguments
+kind_of_form forms.Suite = kinds.Suite
+kind_of_form forms.If = kinds.If
+kind_of_form forms.Elif = kinds.Elif
+kind_of_form forms.Else = kinds.Else
+kind_of_form forms.While = kinds.While
+kind_of_form forms.For = kinds.For
+kind_of_form forms.Try = kinds.Try
+kind_of_form forms.Except = kinds.Except
+kind_of_form forms.Finally = kinds.Finally
+kind_of_form forms.With = kinds.With
+kind_of_form forms.BracketedWith = kinds.With
+kind_of_form forms.WithItem = kinds.WithItem
+kind_of_form forms.Def = kinds.Def
+kind_of_form forms.Class = kinds.Class
+kind_of_form forms.Match = kinds.Match
+kind_of_form forms.Case = kinds.Case
+kind_of_form forms.Async = kinds.Async
+kind_of_form forms.BracketedAsync = kinds.Async
+kind_of_form forms.Decorator = kinds.Decorator
+kind_of_form forms.SignedNumber = kinds.Unary
+kind_of_form forms.ComplexNumber = kinds.Binary
+kind_of_form forms.PatternRound = kinds.Round
+kind_of_form forms.PatternSquare = kinds.Square
+kind_of_form forms.Patterns = kinds.Patterns
+kind_of_form forms.StarPattern = kinds.StarPattern
+kind_of_form forms.DoubleStarPattern = kinds.DoubleStarPattern
+kind_of_form forms.MappingPattern = kinds.MappingPattern
+kind_of_form forms.PatternItem = kinds.PatternItem
+kind_of_form forms.ClassPattern = kinds.ClassPattern
+kind_of_form forms.KeywordPattern = kinds.KeywordPattern
+kind_of_form forms.OrPattern = kinds.OrPattern
+kind_of_form forms.AsPattern = kinds.AsPattern
+
+abbrev pub only_if : Bool → NodeKind → Option NodeKind
+only_if true k = Some k
+only_if false k = None
+
+abbrev pub further_kind : Form → List Token → Option NodeKind
+further_kind forms.Yield ws = only_if (has_word terminals.From ws) kinds.YieldFrom
+further_kind forms.StarParameter ws = only_if (not (has_word terminals.Name ws)) kinds.BareStar
+further_kind forms.DefStarParameter ws = only_if (not (has_word terminals.Name ws)) kinds.BareStar
+further_kind forms.ImportFrom ws = only_if (has_word terminals.Star ws) kinds.ImportAll
+further_kind forms.Except ws = only_if (has_word terminals.Star ws) kinds.ExceptStar
+further_kind f ws = None
+
+abbrev pub or_plain : Option NodeKind → NodeKind → NodeKind
+or_plain (Some k) plainly = k
+or_plain None plainly = plainly
 
 abbrev pub kind_for : Form → List Token → NodeKind
-kind_for forms.Yield ws = if has_word terminals.From ws then kinds.YieldFrom else kinds.Yield
-kind_for forms.StarParameter ws = if has_word terminals.Name ws then kinds.StarParameter else kinds.BareStar
-kind_for f ws = kind_of_form f
+kind_for f ws = or_plain (further_kind f ws) (kind_of_form f)
 
 -- The span: from the first to the last of the tokens.
 abbrev pub piece_span : Piece → Span
@@ -176,6 +254,12 @@ comparison_ops =
     (codes "<", ops.Less) ∷ (codes ">", ops.Greater) ∷ (codes "<=", ops.LessEqual) ∷ (codes ">=", ops.GreaterEqual)
     ∷ (codes "==", ops.Equal) ∷ (codes "!=", ops.NotEqual) ∷ []
 
+abbrev pub augmented_ops : List (List ℕ × Op)
+augmented_ops =
+    (codes "+=", ops.Plus) ∷ (codes "-=", ops.Minus) ∷ (codes "*=", ops.Star) ∷ (codes "/=", ops.Slash) ∷ (codes "//=", ops.DoubleSlash)
+    ∷ (codes "%=", ops.Percent) ∷ (codes "@=", ops.At) ∷ (codes "&=", ops.BitAnd) ∷ (codes "|=", ops.BitOr) ∷ (codes "^=", ops.BitXor)
+    ∷ (codes ">>=", ops.ShiftRight) ∷ (codes "<<=", ops.ShiftLeft) ∷ (codes "**=", ops.DoubleStar) ∷ []
+
 abbrev pub conversions : List (List ℕ × Op)
 conversions = (codes "!r", ops.ToRepr) ∷ (codes "!s", ops.ToStr) ∷ (codes "!a", ops.ToAscii) ∷ []
 
@@ -184,7 +268,7 @@ operated None = nothing
 operated (Some o) = op o
 
 abbrev pub op_of_text : List ℕ → Option Op
-op_of_text text = first_of (lookup arithmetic_ops text) (first_of (lookup comparison_ops text) (lookup bitwise_ops text))
+op_of_text text = first_of (lookup arithmetic_ops text) (first_of (lookup comparison_ops text) (first_of (lookup bitwise_ops text) (lookup augmented_ops text)))
 
 abbrev pub spelled_op : Option Token → Option Op
 spelled_op None = None
@@ -206,10 +290,10 @@ conversion_in ws = converted (find (is_word terminals.FConversion) ws)
 -- the forms whose word is a name
 abbrev pub takes_name : Form → Bool
 takes_name forms.Name = true
-takes_name forms.Parameter = true
-takes_name forms.StarParameter = true
-takes_name forms.DoubleStarParameter = true
+takes_name forms.TypeName = true
+takes_name forms.Underscore = true
 takes_name forms.Attribute = true
+takes_name forms.DottedName = true
 takes_name _ = false
 
 -- the forms whose word is an operator
@@ -224,6 +308,9 @@ takes_op forms.Sum = true
 takes_op forms.Product = true
 takes_op forms.Unary = true
 takes_op forms.Power = true
+takes_op forms.AugmentedAssign = true
+takes_op forms.SignedNumber = true
+takes_op forms.ComplexNumber = true
 takes_op _ = false
 
 abbrev pub said_plainly : Form → List Token → Said
@@ -237,25 +324,60 @@ said_plainly f ws = if takes_op f then operated (op_of_words ws) else nothing
 abbrev pub said_for : Form → List Token → Said
 said_for f ws = if takes_name f then name_in ws else said_plainly f ws
 
--- The parts: those of the reading, and leaves for a last comma and for the colons of a slice.
+-- The parts: those of the reading, and leaves for some words.
+abbrev pub is_slice : Form → Bool
+is_slice forms.Slice = true
+is_slice forms.SliceFrom = true
+is_slice _ = false
+
+abbrev pub is_relative : Form → Bool
+is_relative forms.RelativeSource = true
+is_relative _ = false
+
+abbrev pub is_import : Form → Bool
+is_import forms.ImportFrom = true
+is_import _ = false
+
+-- the forms of which a word is a name on its own
+abbrev pub holds_name : Form → Bool
+holds_name forms.StarParameter = true
+holds_name forms.DefStarParameter = true
+holds_name forms.DefDoubleStarParameter = true
+holds_name forms.TypeAlias = true
+holds_name _ = false
+
+-- the leaf that a word leaves: a comma before no part, a colon of a slice, a dot before a source, and a name
 abbrev pub mark_for : Form → Terminal → Bool → Option NodeKind
-mark_for f terminals.Comma false = Some kinds.LastComma
-mark_for forms.Slice terminals.Colon b = Some kinds.Colon
-mark_for forms.SliceFrom terminals.Colon b = Some kinds.Colon
-mark_for f k b = None
+mark_for f terminals.Comma b = only_if (not b && not (is_import f)) kinds.LastComma
+mark_for f terminals.Colon b = only_if (is_slice f) kinds.Colon
+mark_for f terminals.Dot b = only_if (is_relative f) kinds.Dot
+mark_for f terminals.Ellipsis b = only_if (is_relative f) kinds.Ellipsis
+mark_for f terminals.Name b = only_if (holds_name f) kinds.Name
+mark_for f _ b = None
 
 abbrev pub is_tree_next : List Piece → Bool
 is_tree_next [] = false
 is_tree_next (of_word w ∷ xs) = false
 is_tree_next (of_tree t ∷ xs) = true
 
+abbrev pub is_name : NodeKind → Bool
+is_name kinds.Name = true
+is_name _ = false
+
+-- what a leaf says: a name its text
+abbrev pub said_leaf : NodeKind → Token → Said
+said_leaf k w = if is_name k then name w.text else nothing
+
+abbrev pub leaf_of : NodeKind → Token → SyntaxTree
+leaf_of k w = node k w.span (said_leaf k w) no_parts
+
 abbrev pub marked : Option NodeKind → Token → List SyntaxTree
 marked None w = []
-marked (Some k) w = node k w.span nothing no_parts ∷ []
+marked (Some k) w = leaf_of k w ∷ []
 
 -- what is kept of a piece before another one
 abbrev pub kept_one : Form → Piece → Bool → List SyntaxTree
-kept_one f (of_word w) b = marked (mark_for f (terminal w) b) w
+kept_one f (of_word w) b = marked (mark_for f (plain (terminal w)) b) w
 kept_one f (of_tree t) b = t ∷ []
 
 abbrev pub kept : Form → List Piece → List SyntaxTree

@@ -4,26 +4,20 @@ use Rattle.py_tokens.specs.declared.lines.Token.{Token}
 use Rattle.py_grammar.specs.declared.words.Terminal.{Terminal}
 use Rattle.py_grammar.specs.declared.words.Terminal.TheVariants as terminals
 use Rattle.py_grammar.specs.declared.words.Form.{Form}
-use Rattle.py_grammar.specs.declared.words.Form.TheVariants as forms
 use Rattle.py_grammar.specs.declared.words.Need.{Need}
-use Rattle.py_grammar.specs.declared.words.Need.TheVariants as needs
 use Rattle.py_grammar.specs.declared.words.State.{State}
 use Rattle.py_grammar.specs.declared.words.Opening.{Opening}
 use Rattle.py_grammar.specs.declared.words.Joint.{Joint}
 use Rattle.py_grammar.specs.declared.words.Place.{Place}
 use Rattle.py_grammar.specs.declared.step.Step.{Step}
 use Rattle.py_grammar.specs.declared.step.Step.TheVariants.{Shift as shift, Descend as descend, Stop as stop, Fail as fail}
-use Rattle.py_grammar.specs.Table.{meets, opens, joins, edge, places, is_last}
+use Rattle.py_grammar.specs.Table.{meets, beneath, is_among, opens, joins, edge, places, is_last}
 use Rattle.py_grammar.specs.Terminal.{terminal}
 use Rattle.py_grammar.specs.Reading.{Reading, opened, joined, Parts, no_more, word, part, form_of}
 
--- the forms at a need's left edge, on the way to one that meets it
-abbrev pub beneath : Need → Form → Bool
-beneath needs.Expressions forms.Starred = true
-beneath _ _ = false
-
+-- what a place takes, and what stands at the left edge of that
 abbrev pub reaches : Need → Form → Bool
-reaches n f = meets n f || beneath n f
+reaches n f = meets n f || is_among f (beneath n)
 
 abbrev pub begins : Need → Terminal → Option Opening
 begins n k = find (λ o. reaches n o.form) (opens k)

@@ -1,12 +1,15 @@
--- What a table of levels can't say: which trees are targets, in which order the entries of some forms stand, and that a `:` outside
--- brackets ends the value of a field (Python 3.12 language reference, 7.2 for targets, 6.3.4 for arguments, 8.7 and 6.14 for parameters,
--- 6.2.7 for the entries of curly brackets, 2.4.3 for fields).
-use Rattle.std.specs.Prelude.{ℕ, nat_lt, Bool, true, false, not, ◌&&◌, ◌||◌, List, [], ◌∷◌, if◌then◌else◌}
+-- What a table of levels can't say: which trees are targets, in which order the entries of some forms stand, that a `:` outside
+-- brackets ends the value of a field, and that the first part of a complex number in a pattern is real (Python 3.12 language reference,
+-- 7.2 for targets, 6.3.4 for arguments, 8.7 and 6.14 for parameters, 6.2.7 for the entries of curly brackets, 2.4.3 for fields, 8.6.4
+-- for patterns).
+use Rattle.std.specs.Prelude.{ℕ, ◌-◌, nat_lt, Bool, true, false, not, ◌&&◌, ◌||◌, List, [], ◌∷◌, length, take, if◌then◌else◌}
 use Rattle.std.specs.List.{list_all}
 use Rattle.py_base.specs.declared.node.NodeKind.{NodeKind}
 use Rattle.py_base.specs.declared.node.NodeKind.TheVariants as kinds
 use Rattle.py_grammar.specs.declared.order.Order.{Order}
 use Rattle.py_grammar.specs.declared.order.Order.TheVariants as orders
+use Rattle.py_grammar.specs.declared.order.Binding.{Binding}
+use Rattle.py_grammar.specs.declared.order.Binding.TheVariants as bindings
 use Rattle.py_base.specs.Tree.{SyntaxTree, SyntaxTrees, node, no_parts, with_part, kind_of}
 
 abbrev pub kinds_of : SyntaxTrees → List NodeKind
@@ -43,21 +46,48 @@ abbrev pub parameter_bar : NodeKind → ℕ
 parameter_bar kinds.Slash = 1
 parameter_bar kinds.BareStar = 2
 parameter_bar kinds.StarParameter = 2
+parameter_bar kinds.Name = 3
 parameter_bar kinds.Parameter = 3
+parameter_bar kinds.AnnotatedParameter = 3
 parameter_bar kinds.DoubleStarParameter = 3
 parameter_bar _ = 9
+
+-- Patterns of a sequence: behind `*` stands no second one.
+abbrev pub sequence_grade : NodeKind → ℕ
+sequence_grade kinds.StarPattern = 1
+sequence_grade _ = 0
+
+abbrev pub sequence_bar : NodeKind → ℕ
+sequence_bar kinds.StarPattern = 1
+sequence_bar _ = 9
+
+-- Patterns of a class: behind `name =` stands no plain pattern.
+abbrev pub class_grade : NodeKind → ℕ
+class_grade kinds.KeywordPattern = 1
+class_grade _ = 0
+
+abbrev pub class_bar : NodeKind → ℕ
+class_bar kinds.KeywordPattern = 9
+class_bar kinds.LastComma = 9
+class_bar _ = 1
 
 -- what an order is of
 abbrev pub grade_for : Order → NodeKind → ℕ
 grade_for orders.Arguments k = argument_grade k
 grade_for orders.Parameters k = parameter_grade k
+grade_for orders.SequencePatterns k = sequence_grade k
+grade_for orders.ClassPatterns k = class_grade k
 
 abbrev pub bar_for : Order → NodeKind → ℕ
 bar_for orders.Arguments k = argument_bar k
 bar_for orders.Parameters k = parameter_bar k
+bar_for orders.SequencePatterns k = sequence_bar k
+bar_for orders.ClassPatterns k = class_bar k
 
 abbrev pub is_parameter : NodeKind → Bool
+is_parameter kinds.Name = true
 is_parameter kinds.Parameter = true
+is_parameter kinds.AnnotatedParameter = true
 is_parameter _ = false
 
 abbrev pub begins_with_parameter : List NodeKind → Bool
@@ -81,6 +111,13 @@ is_slash _ = false
 abbrev pub slash_fits : List NodeKind → Bool
 slash_fits [] = true
 slash_fits (k ∷ ks) = not (is_slash k)
+
+abbrev pub parameters_fit : List NodeKind → Bool
+parameters_fit ks = slash_fits ks && stars_fit ks && are_ordered (grade_for orders.Parameters) (bar_for orders.Parameters) ks
+
+-- the parts of a lambda without its body
+abbrev pub without_last : List NodeKind → List NodeKind
+without_last ks = take (length ks - 1) ks
 
 -- Curly brackets: what makes a dict and what makes a set don't stand together.
 abbrev pub is_dict_entry : NodeKind → Bool
@@ -122,10 +159,15 @@ is_lone_star (k ∷ l ∷ ks) = false
 -- what a node asks of the kinds of its parts
 abbrev pub fits : NodeKind → List NodeKind → Bool
 fits kinds.Call ks = are_ordered (grade_for orders.Arguments) (bar_for orders.Arguments) ks
-fits kinds.Lambda ks = slash_fits ks && stars_fit ks && are_ordered (grade_for orders.Parameters) (bar_for orders.Parameters) ks
+fits kinds.Arguments ks = are_ordered (grade_for orders.Arguments) (bar_for orders.Arguments) ks
+fits kinds.Lambda ks = parameters_fit (without_last ks)
+fits kinds.Parameters ks = parameters_fit ks
 fits kinds.Curly ks = entries_fit ks
 fits kinds.Starred ks = not (begins_starred ks)
-fits kinds.Round ks = not (is_lone_star ks)
+fits kinds.Round ks = not (is_lone_star ks) && are_ordered (grade_for orders.SequencePatterns) (bar_for orders.SequencePatterns) ks
+fits kinds.Square ks = are_ordered (grade_for orders.SequencePatterns) (bar_for orders.SequencePatterns) ks
+fits kinds.Patterns ks = are_ordered (grade_for orders.SequencePatterns) (bar_for orders.SequencePatterns) ks
+fits kinds.ClassPattern ks = are_ordered (grade_for orders.ClassPatterns) (bar_for orders.ClassPatterns) ks
 fits _ ks = true
 
 -- a name, an attribute or a subscript
@@ -141,14 +183,19 @@ holds_targets kinds.Starred = true
 holds_targets kinds.Round = true
 holds_targets kinds.Square = true
 holds_targets kinds.Targets = true
+holds_targets kinds.Entries = true
 holds_targets kinds.LastComma = true
 holds_targets _ = false
 
--- the first part is what is bound
-abbrev pub binds_first : NodeKind → Bool
-binds_first kinds.ComprehensionFor = true
-binds_first kinds.AsyncComprehensionFor = true
-binds_first _ = false
+-- which parts are bound
+abbrev pub binding : NodeKind → Binding
+binding kinds.ComprehensionFor = bindings.First
+binding kinds.AsyncComprehensionFor = bindings.First
+binding kinds.For = bindings.First
+binding kinds.Del = bindings.First
+binding kinds.WithItem = bindings.AllButFirst
+binding kinds.Assign = bindings.AllButLast
+binding _ = bindings.Nothing
 
 abbrev pub is_lambda : NodeKind → Bool
 is_lambda kinds.Lambda = true
@@ -177,17 +224,78 @@ abbrev mutual
   have_colon no_parts = false
   have_colon (with_part t ts) = has_colon t || have_colon ts
 
+abbrev pub is_unary : NodeKind → Bool
+is_unary kinds.Unary = true
+is_unary _ = false
+
+abbrev pub is_binary : NodeKind → Bool
+is_binary kinds.Binary = true
+is_binary _ = false
+
+abbrev pub is_strings : NodeKind → Bool
+is_strings kinds.Strings = true
+is_strings _ = false
+
+abbrev pub is_case : NodeKind → Bool
+is_case kinds.Case = true
+is_case _ = false
+
+abbrev pub begins_imaginary : List NodeKind → Bool
+begins_imaginary (kinds.Imaginary ∷ ks) = true
+begins_imaginary _ = false
+
+-- a sign before an imaginary number
+abbrev pub is_signed_imaginary : SyntaxTree → Bool
+is_signed_imaginary (node k at said ts) = is_unary k && begins_imaginary (kinds_of ts)
+
+abbrev pub begins_signed : SyntaxTrees → Bool
+begins_signed no_parts = false
+begins_signed (with_part t ts) = is_signed_imaginary t
+
+-- in the tree of a pattern, outside the fields of its strings, something is added to an imaginary number that has a sign
+abbrev mutual
+  pub is_unreal : SyntaxTree → Bool
+  is_unreal (node k at said ts) = (is_binary k && begins_signed ts) || (not (is_strings k) && are_unreal ts)
+
+  pub are_unreal : SyntaxTrees → Bool
+  are_unreal no_parts = false
+  are_unreal (with_part t ts) = is_unreal t || are_unreal ts
+
+abbrev pub begins_unreal : SyntaxTrees → Bool
+begins_unreal no_parts = false
+begins_unreal (with_part t ts) = is_unreal t
+
+-- a field whose value a `:` would end too soon, and a case whose pattern has a number of two imaginary parts
+abbrev pub is_faulty : NodeKind → SyntaxTrees → Bool
+is_faulty k ts = (is_field k && have_colon ts) || (is_case k && begins_unreal ts)
+
+abbrev pub is_end : SyntaxTrees → Bool
+is_end no_parts = true
+is_end (with_part t ts) = false
+
+-- what is assigned is not starred
+abbrev pub is_value : NodeKind → Bool → Bool
+is_value k proper = proper && not (is_starred k)
+
 -- A TREE IS PROPER where each node in it has what it asks of its parts; a target is one that can be bound.
 abbrev mutual
   pub is_proper : SyntaxTree → Bool
-  is_proper (node k at said ts) = parts_proper (binds_first k) ts && fits k (kinds_of ts) && not (is_field k && have_colon ts)
+  is_proper (node k at said ts) = parts_proper (binding k) ts && fits k (kinds_of ts) && not (is_faulty k ts)
 
   pub is_target : SyntaxTree → Bool
   is_target (node k at said ts) = (is_reference k && are_proper ts) || (holds_targets k && are_targets ts)
 
-  pub parts_proper : Bool → SyntaxTrees → Bool
+  pub parts_proper : Binding → SyntaxTrees → Bool
   parts_proper b no_parts = true
-  parts_proper b (with_part t ts) = (if b then is_target t else is_proper t) && are_proper ts
+  parts_proper bindings.Nothing (with_part t ts) = is_proper t && are_proper ts
+  parts_proper bindings.First (with_part t ts) = is_target t && are_proper ts
+  parts_proper bindings.AllButFirst (with_part t ts) = is_proper t && are_targets ts
+  parts_proper bindings.AllButLast (with_part t ts) = (if is_end ts then is_value (kind_of t) (is_proper t) else is_target t) && are_assigned ts
+
+  -- targets, and as the last what is assigned
+  pub are_assigned : SyntaxTrees → Bool
+  are_assigned no_parts = true
+  are_assigned (with_part t ts) = (if is_end ts then is_value (kind_of t) (is_proper t) else is_target t) && are_assigned ts
 
   pub are_proper : SyntaxTrees → Bool
   are_proper no_parts = true

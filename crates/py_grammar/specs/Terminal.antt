@@ -1,5 +1,5 @@
 -- What each token is to the grammar, and the operator that it spells (Python 3.12 language reference, 2.3 and 2.5, and the literals
--- of 2.4: a number or string whose value no rule gives stands in no expression).
+-- of 2.4: a number or string whose value no rule gives stands in no line).
 use Rattle.std.specs.Prelude.{ℕ, ◌==◌, ◌||◌, ◌&&◌, nat_lt, Bool, false, is_some, Option, Some, None, List, [], ◌∷◌, codes, bytes_eq, if◌then◌else◌}
 use Rattle.std.specs.List.{list_all}
 use Rattle.py_tokens.specs.declared.lines.Token.{Token}
@@ -37,20 +37,43 @@ abbrev pub or_other : Option Terminal → Terminal
 or_other (Some t) = t
 or_other None = terminals.Other
 
-abbrev pub keywords_to_for : List (List ℕ × Terminal)
-keywords_to_for =
+abbrev pub keywords_to_await : List (List ℕ × Terminal)
+keywords_to_await =
     (codes "False", terminals.FalseWord) ∷ (codes "None", terminals.NoneWord) ∷ (codes "True", terminals.TrueWord) ∷ (codes "and", terminals.And)
-    ∷ (codes "async", terminals.Async) ∷ (codes "await", terminals.Await) ∷ (codes "else", terminals.Else) ∷ (codes "for", terminals.For) ∷ []
+    ∷ (codes "as", terminals.As) ∷ (codes "assert", terminals.Assert) ∷ (codes "async", terminals.Async) ∷ (codes "await", terminals.Await) ∷ []
 
-abbrev pub keywords_from_from : List (List ℕ × Terminal)
-keywords_from_from =
-    (codes "from", terminals.From) ∷ (codes "if", terminals.If) ∷ (codes "in", terminals.In) ∷ (codes "is", terminals.Is)
-    ∷ (codes "lambda", terminals.Lambda) ∷ (codes "not", terminals.Not) ∷ (codes "or", terminals.Or) ∷ (codes "yield", terminals.Yield) ∷ []
+abbrev pub keywords_to_except : List (List ℕ × Terminal)
+keywords_to_except =
+    (codes "break", terminals.Break) ∷ (codes "class", terminals.Class) ∷ (codes "continue", terminals.Continue) ∷ (codes "def", terminals.Def)
+    ∷ (codes "del", terminals.Del) ∷ (codes "elif", terminals.Elif) ∷ (codes "else", terminals.Else) ∷ (codes "except", terminals.Except) ∷ []
+
+abbrev pub keywords_to_is : List (List ℕ × Terminal)
+keywords_to_is =
+    (codes "finally", terminals.Finally) ∷ (codes "for", terminals.For) ∷ (codes "from", terminals.From) ∷ (codes "global", terminals.Global)
+    ∷ (codes "if", terminals.If) ∷ (codes "import", terminals.Import) ∷ (codes "in", terminals.In) ∷ (codes "is", terminals.Is) ∷ []
+
+abbrev pub keywords_to_yield : List (List ℕ × Terminal)
+keywords_to_yield =
+    (codes "lambda", terminals.Lambda) ∷ (codes "nonlocal", terminals.Nonlocal) ∷ (codes "not", terminals.Not) ∷ (codes "or", terminals.Or)
+    ∷ (codes "pass", terminals.Pass) ∷ (codes "raise", terminals.Raise) ∷ (codes "return", terminals.Return) ∷ (codes "try", terminals.Try)
+    ∷ (codes "while", terminals.While) ∷ (codes "with", terminals.With) ∷ (codes "yield", terminals.Yield) ∷ []
+
+-- names that are keywords where a form has them as such
+abbrev pub soft_keywords : List (List ℕ × Terminal)
+soft_keywords =
+    (codes "match", terminals.MatchWord) ∷ (codes "case", terminals.CaseWord) ∷ (codes "type", terminals.TypeWord) ∷ (codes "_", terminals.Underscore) ∷ []
 
 abbrev pub arithmetic : List (List ℕ × Terminal)
 arithmetic =
-    (codes "+", terminals.PlusMinus) ∷ (codes "-", terminals.PlusMinus) ∷ (codes "*", terminals.Star) ∷ (codes "/", terminals.Slash)
-    ∷ (codes "%", terminals.Times) ∷ (codes "@", terminals.Times) ∷ (codes "//", terminals.Times) ∷ (codes "**", terminals.DoubleStar) ∷ []
+    (codes "+", terminals.Plus) ∷ (codes "-", terminals.Minus) ∷ (codes "*", terminals.Star) ∷ (codes "/", terminals.Slash)
+    ∷ (codes "%", terminals.Times) ∷ (codes "@", terminals.At) ∷ (codes "//", terminals.Times) ∷ (codes "**", terminals.DoubleStar) ∷ []
+
+abbrev pub augmented : List (List ℕ × Terminal)
+augmented =
+    (codes "+=", terminals.AugmentedAssign) ∷ (codes "-=", terminals.AugmentedAssign) ∷ (codes "*=", terminals.AugmentedAssign) ∷ (codes "/=", terminals.AugmentedAssign)
+    ∷ (codes "//=", terminals.AugmentedAssign) ∷ (codes "%=", terminals.AugmentedAssign) ∷ (codes "@=", terminals.AugmentedAssign) ∷ (codes "&=", terminals.AugmentedAssign)
+    ∷ (codes "|=", terminals.AugmentedAssign) ∷ (codes "^=", terminals.AugmentedAssign) ∷ (codes ">>=", terminals.AugmentedAssign) ∷ (codes "<<=", terminals.AugmentedAssign)
+    ∷ (codes "**=", terminals.AugmentedAssign) ∷ []
 
 abbrev pub bitwise : List (List ℕ × Terminal)
 bitwise =
@@ -70,20 +93,27 @@ brackets =
 abbrev pub punctuation : List (List ℕ × Terminal)
 punctuation =
     (codes ",", terminals.Comma) ∷ (codes ":", terminals.Colon) ∷ (codes ".", terminals.Dot) ∷ (codes "=", terminals.Assign)
-    ∷ (codes ":=", terminals.Walrus) ∷ (codes "...", terminals.Ellipsis) ∷ []
+    ∷ (codes ":=", terminals.Walrus) ∷ (codes "...", terminals.Ellipsis) ∷ (codes ";", terminals.Semicolon) ∷ (codes "->", terminals.Arrow) ∷ []
 
 abbrev pub keyword_terminal : List ℕ → Terminal
-keyword_terminal text = or_other (first_of (lookup keywords_to_for text) (lookup keywords_from_from text))
+keyword_terminal text = or_other (first_of (lookup keywords_to_await text) (first_of (lookup keywords_to_except text) (first_of (lookup keywords_to_is text) (lookup keywords_to_yield text))))
+
+abbrev pub or_name : Option Terminal → Terminal
+or_name (Some t) = t
+or_name None = terminals.Name
+
+abbrev pub name_terminal : List ℕ → Terminal
+name_terminal text = or_name (lookup soft_keywords text)
 
 abbrev pub operator_terminal : List ℕ → Terminal
 operator_terminal text =
-    or_other (first_of (lookup punctuation text) (first_of (lookup brackets text) (first_of (lookup arithmetic text) (first_of (lookup comparisons text) (lookup bitwise text)))))
+    or_other (first_of (lookup punctuation text) (first_of (lookup brackets text) (first_of (lookup arithmetic text) (first_of (lookup comparisons text) (first_of (lookup bitwise text) (lookup augmented text))))))
 
 abbrev pub string_terminal : List ℕ → Terminal
 string_terminal text = if is_bytes_literal text then (if is_ascii_text text then terminals.BytesStr else terminals.Other) else terminals.Str
 
 abbrev pub terminal_of : TokenKind → List ℕ → Terminal
-terminal_of kinds.Name text = terminals.Name
+terminal_of kinds.Name text = name_terminal text
 terminal_of kinds.Keyword text = keyword_terminal text
 terminal_of kinds.Int text = if is_some (int_of text) then terminals.Int else terminals.Other
 terminal_of kinds.Float text = terminals.Float

@@ -1,17 +1,19 @@
 //! Nodes over what was read.
 ghost use Rattle.std.specs.Prelude.{◌≡◌, ◌<◌, ◌∷◌, ◌++◌, ◌+◌, ◌&&◌, [], suc, min, max, map, length, fold, IfOk, OnOk};
 ghost use Rattle.std.specs.List.{list_all, list_any};
-ghost use Rattle.py_grammar.specs.Proper.{is_field};
+ghost use Rattle.py_grammar.specs.Proper.{begins_imaginary};
 ghost use Rattle.py_base.specs.Tree.{Arena, said, node, tree_of, IsNamed, IsLinked, Grows};
-ghost use Rattle.py_grammar.specs.Meaning.{kept_one, kept, listed, assembled};
-ghost use Rattle.py_grammar.specs.Found.{IsKnown, AllKnown, AreKnown, piece_at, pieces_at, trees_at, is_part_next, parts_proper_over, proper_over, target_over, colon_over, highest, capped, leaf_of, Extends};
+ghost use Rattle.py_grammar.specs.Meaning.{kept_one, kept, listed, assembled, leaf_of};
+ghost use Rattle.py_grammar.specs.Found.{IsKnown, AllKnown, AreKnown, piece_at, pieces_at, trees_at, is_part_next, one_assigned_over, assigned_over, parts_proper_over, begins_unreal_over, begins_signed_over, faulty_over, signed_over, unreal_over, proper_over, target_over, colon_over, highest, capped, Extends, item_ids, found_ids, Keeps, IsNewest};
 
 use crate::found::{Found, Item};
 use crate::order::{
-    does_bind_first, does_enclose, does_fit, is_field, is_lambda, is_name_like, is_of_targets,
+    Binding, binding_of, does_enclose, does_fit, is_binary, is_case, is_field, is_lambda,
+    is_name_like, is_of_targets, is_starred, is_strings, is_unary,
 };
+use crate::table::plain_of;
 use crate::terminal::terminal_for;
-use crate::word::{is_part_first, kind_of, mark_of, span_over, word_for};
+use crate::word::{is_part_first, kind_of, leaf_word, mark_of, span_over, word_for};
 use crate::words::Form;
 use py_base::{List, NoMemory, Node, NodeId, NodeKind, Span, Tree, Word};
 use py_tokens::Token;
@@ -35,11 +37,57 @@ fn have_colon(parts: &[Found]) -> bool
     parts.iter().any(|part| part.colon)
 }
 
-// Whether it is a field whose value a `:` would end too soon.
-fn is_open_field(kind: NodeKind, parts: &[Found]) -> bool
-    ensures { result ≡ (is_field kind && list_any (λ x. x.colon) parts.now) }
+fn does_begin_unreal(parts: &[Found]) -> bool
+    ensures { result ≡ begins_unreal_over parts.now }
 {
-    is_field(kind) && have_colon(parts)
+    match parts {
+        [] => false,
+        [first, ..] => first.unreal,
+    }
+}
+
+fn does_begin_signed(parts: &[Found]) -> bool
+    ensures { result ≡ begins_signed_over parts.now }
+{
+    match parts {
+        [] => false,
+        [first, ..] => first.signed,
+    }
+}
+
+fn does_begin_imaginary(parts: &[Found]) -> bool
+    ensures { result ≡ begins_imaginary (map (λ x. x.kind) parts.now) }
+{
+    match parts {
+        [] => false,
+        [first, ..] => matches!(first.kind, NodeKind::Imaginary),
+    }
+}
+
+fn are_unreal(parts: &[Found]) -> bool
+    ensures { result ≡ list_any (λ x. x.unreal) parts.now }
+{
+    parts.iter().any(|part| part.unreal)
+}
+
+// Whether it is a field whose value a `:` would end too soon, or a case whose pattern has a number of
+// two imaginary parts.
+fn is_faulty(kind: NodeKind, parts: &[Found]) -> bool
+    ensures { result ≡ faulty_over kind parts.now }
+{
+    (is_field(kind) && have_colon(parts)) || (is_case(kind) && does_begin_unreal(parts))
+}
+
+fn is_signed_over(kind: NodeKind, parts: &[Found]) -> bool
+    ensures { result ≡ signed_over kind parts.now }
+{
+    is_unary(kind) && does_begin_imaginary(parts)
+}
+
+fn is_unreal_over(kind: NodeKind, parts: &[Found]) -> bool
+    ensures { result ≡ unreal_over kind parts.now }
+{
+    (is_binary(kind) && does_begin_signed(parts)) || (!is_strings(kind) && are_unreal(parts))
 }
 
 fn has_colon_over(kind: NodeKind, parts: &[Found]) -> bool
@@ -48,23 +96,49 @@ fn has_colon_over(kind: NodeKind, parts: &[Found]) -> bool
     is_lambda(kind) || (!does_enclose(kind) && have_colon(parts))
 }
 
-// Whether the parts are proper, the first one as a target if it is bound.
-fn are_parts_proper(bound: bool, parts: &[Found]) -> bool
-    ensures { result ≡ parts_proper_over bound parts.now }
+// Whether a part of an assignment before others is a target, or as the last what is assigned.
+fn is_assigned(part: &Found, behind: &[Found]) -> bool
+    ensures { result ≡ one_assigned_over part.now behind.now }
+{
+    match behind {
+        [] => part.proper && !is_starred(part.kind),
+        [_, ..] => part.target,
+    }
+}
+
+// Whether all but the last are targets, and the last is what is assigned to them.
+fn are_assigned(parts: &[Found]) -> bool
+    ensures { result ≡ assigned_over parts.now }
+{
+    let mut rest = parts;
+    'parts: while let Some((part, behind)) = rest.split_first() {
+        if !is_assigned(part, behind) {
+            return false;
+        }
+        rest = behind;
+    }
+    true
+}
+
+// Whether the parts are proper, those that are bound as targets.
+fn are_parts_proper(binding: Binding, parts: &[Found]) -> bool
+    ensures { result ≡ parts_proper_over binding parts.now }
 {
     let Some((first, others)) = parts.split_first() else {
         return true;
     };
-    let is_fine = if bound { first.target } else { first.proper };
-    is_fine && are_all_proper(others)
+    match binding {
+        Binding::Nothing => first.proper && are_all_proper(others),
+        Binding::First => first.target && are_all_proper(others),
+        Binding::AllButFirst => first.proper && are_all_targets(others),
+        Binding::AllButLast => are_assigned(parts),
+    }
 }
 
 fn is_proper_over(kind: NodeKind, parts: &[Found]) -> bool
     ensures { result ≡ proper_over kind parts.now }
 {
-    are_parts_proper(does_bind_first(kind), parts)
-        && does_fit(kind, parts)
-        && !is_open_field(kind, parts)
+    are_parts_proper(binding_of(kind), parts) && does_fit(kind, parts) && !is_faulty(kind, parts)
 }
 
 fn is_target_over(kind: NodeKind, parts: &[Found]) -> bool
@@ -114,11 +188,14 @@ fn add_node(
     requires named { IsNamed (length tree.old.names) word }
     ensures older { Extends tree.old tree.new }
     ensures node { IfOk result (λ x. IsKnown tree.new x × (x.form ≡ form) × (tree_of tree.new x.id ≡ node kind span (said tree.old.names word) (listed (trees_at tree.old parts.now)))) }
+    ensures keeps { IfOk result (λ x. Keeps tree.old (found_ids parts.now) tree.new (x.id ∷ []) × IsNewest tree.old tree.new x.id) }
 {
     let height = height_over(parts);
     let proper = is_proper_over(kind, parts);
     let target = is_target_over(kind, parts);
     let colon = has_colon_over(kind, parts);
+    let signed = is_signed_over(kind, parts);
+    let unreal = is_unreal_over(kind, parts);
     let ids = ids_of(alloc, parts)?;
     let id = tree.add(Node {
         kind,
@@ -135,6 +212,8 @@ fn add_node(
         proper,
         target,
         colon,
+        signed,
+        unreal,
     })
 }
 
@@ -148,16 +227,11 @@ fn add_leaf(
     requires { IsLinked tree.old }
     ensures older { Extends tree.old tree.new }
     ensures leaf { IfOk result (λ x. IsKnown tree.new x × (tree_of tree.new x.id ≡ leaf_of kind token.now)) }
+    ensures keeps { IfOk result (λ x. Keeps tree.old [] tree.new (x.id ∷ [])) }
 {
-    add_node(
-        alloc,
-        tree,
-        Form::Name,
-        kind,
-        token.span,
-        Word::Nothing,
-        &[],
-    )
+    let word = leaf_word(tree, kind, token)?;
+    let leaf = add_node(alloc, tree, Form::Name, kind, token.span, word, &[])?;
+    Ok(leaf)
 }
 
 // Adds what is kept of an item, before others, to the parts.
@@ -174,13 +248,18 @@ fn keep(
     requires kept { AllKnown tree.old parts.old }
     ensures older { Extends tree.old tree.new }
     ensures kept { OnOk result (AllKnown tree.new parts.new × (trees_at tree.new parts.new ≡ trees_at tree.old parts.old ++ kept_one form (piece_at tree.old item.now) (is_part_next behind.now))) }
+    ensures keeps { OnOk result (Keeps tree.old (found_ids parts.old ++ item_ids (item.now ∷ [])) tree.new (found_ids parts.new)) }
 {
     match *item {
         Item::Part(found) => {
             parts.push(found)?;
             Ok(())
         }
-        Item::Word(token) => match mark_of(form, terminal_for(token), is_part_first(behind)) {
+        Item::Word(token) => match mark_of(
+            form,
+            plain_of(terminal_for(token)),
+            is_part_first(behind),
+        ) {
             None => Ok(()),
             Some(kind) => {
                 let leaf = add_leaf(alloc, tree, kind, token)?;
@@ -202,6 +281,7 @@ fn kept_parts(
     requires known { AreKnown tree.old items.now }
     ensures older { Extends tree.old tree.new }
     ensures kept { IfOk result (λ v. AllKnown tree.new v × (trees_at tree.new v ≡ kept form (pieces_at tree.old items.now))) }
+    ensures keeps { IfOk result (λ v. Keeps tree.old (item_ids items.now) tree.new (found_ids v)) }
 {
     let mut parts = List::new(alloc);
     'items: for at in 0..items.len() {
@@ -221,6 +301,7 @@ pub fn assemble(
     requires known { AreKnown tree.old items.now }
     ensures older { Extends tree.old tree.new }
     ensures node { IfOk result (λ x. IsKnown tree.new x × (x.form ≡ form) × (tree_of tree.new x.id ≡ assembled form (pieces_at tree.old items.now))) }
+    ensures keeps { IfOk result (λ x. Keeps tree.old (item_ids items.now) tree.new (x.id ∷ []) × IsNewest tree.old tree.new x.id) }
 {
     let word = word_for(alloc, tree, form, items)?;
     let parts = kept_parts(alloc, tree, form, items)?;

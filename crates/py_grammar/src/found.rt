@@ -19,6 +19,11 @@ pub struct Found {
     pub target: bool,
     /// Whether the `:` of a lambda stands in it outside all brackets.
     pub colon: bool,
+    /// Whether it is a sign before an imaginary number.
+    pub signed: bool,
+    /// Whether something is added in it to an imaginary number that has a sign, outside the fields of
+    /// strings.
+    pub unreal: bool,
 }
 
 /// A token or a part of a node.

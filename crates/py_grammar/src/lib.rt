@@ -12,16 +12,16 @@
 #![tactic(auto)]
 
 mod assemble;
-mod found;
+pub mod found;
 mod laws;
-mod order;
+pub mod order;
 mod reader;
 mod step;
 mod strings;
-mod table;
-mod terminal;
-mod word;
-mod words;
+pub mod table;
+pub mod terminal;
+pub mod word;
+pub mod words;
 
 pub use laws::{one_reading, one_tree};
 pub use reader::read_whole;

@@ -1,16 +1,29 @@
-//! What a node asks of the kinds of its parts, beside what the table says.
+//! What a node asks of its parts, beside what the table says.
 ghost use Rattle.std.specs.Prelude.{◌≡◌, ◌||◌, not, map};
 ghost use Rattle.std.specs.List.{list_all};
-ghost use Rattle.py_grammar.specs.Proper.{grade_for, bar_for, are_ordered, is_parameter, begins_with_parameter, is_bare_star, stars_fit, is_slash, slash_fits, is_dict_entry, is_neutral, entries_fit, is_starred, begins_starred, is_lone_star, is_lambda, is_field, encloses, fits, is_reference, holds_targets, binds_first};
+ghost use Rattle.py_grammar.specs.Proper.{grade_for, bar_for, are_ordered, is_parameter, begins_with_parameter, is_bare_star, stars_fit, is_slash, slash_fits, is_dict_entry, is_neutral, entries_fit, is_starred, begins_starred, is_lone_star, is_unary, is_binary, is_strings, is_case, is_lambda, is_field, encloses, fits, is_reference, holds_targets, parameters_fit, without_last, binding};
 
 use crate::found::Found;
 use py_base::NodeKind;
 
-/// The two forms whose entries stand in an order.
+/// What stands in an order.
 #[derive(Clone, Copy, Debug, PartialEq, Eq)]
 pub enum Order {
     Arguments,
     Parameters,
+    /// At most one of them has a `*`.
+    SequencePatterns,
+    ClassPatterns,
+}
+
+/// Which parts of a node are bound.
+#[derive(Clone, Copy, Debug, PartialEq, Eq)]
+pub enum Binding {
+    Nothing,
+    First,
+    AllButFirst,
+    /// The last one is what the others are bound to.
+    AllButLast,
 }
 
 // How much an entry bars behind it.
@@ -23,6 +36,8 @@ fn grade_of(order: Order, kind: NodeKind) -> u8
         (Order::Parameters, NodeKind::Slash) => 1,
         (Order::Parameters, NodeKind::BareStar | NodeKind::StarParameter) => 2,
         (Order::Parameters, NodeKind::DoubleStarParameter) => 3,
+        (Order::SequencePatterns, NodeKind::StarPattern) => 1,
+        (Order::ClassPatterns, NodeKind::KeywordPattern) => 1,
         _ => 0,
     }
 }
@@ -37,8 +52,18 @@ fn bar_of(order: Order, kind: NodeKind) -> u8
         (Order::Arguments, _) => 1,
         (Order::Parameters, NodeKind::Slash) => 1,
         (Order::Parameters, NodeKind::BareStar | NodeKind::StarParameter) => 2,
-        (Order::Parameters, NodeKind::Parameter | NodeKind::DoubleStarParameter) => 3,
+        (
+            Order::Parameters,
+            NodeKind::Name
+            | NodeKind::Parameter
+            | NodeKind::AnnotatedParameter
+            | NodeKind::DoubleStarParameter,
+        ) => 3,
         (Order::Parameters, _) => 9,
+        (Order::SequencePatterns, NodeKind::StarPattern) => 1,
+        (Order::SequencePatterns, _) => 9,
+        (Order::ClassPatterns, NodeKind::KeywordPattern | NodeKind::LastComma) => 9,
+        (Order::ClassPatterns, _) => 1,
     }
 }
 
@@ -58,13 +83,34 @@ fn is_in_order(order: Order, parts: &[Found]) -> bool
     true
 }
 
+fn is_parameter(kind: NodeKind) -> bool
+    ensures { result ≡ is_parameter kind }
+{
+    matches!(
+        kind,
+        NodeKind::Name | NodeKind::Parameter | NodeKind::AnnotatedParameter
+    )
+}
+
 fn does_begin_with_parameter(parts: &[Found]) -> bool
     ensures { result ≡ begins_with_parameter (map (λ x. x.kind) parts.now) }
 {
     match parts {
         [] => false,
-        [first, ..] => first.kind == NodeKind::Parameter,
+        [first, ..] => is_parameter(first.kind),
     }
+}
+
+fn is_bare_star(kind: NodeKind) -> bool
+    ensures { result ≡ is_bare_star kind }
+{
+    matches!(kind, NodeKind::BareStar)
+}
+
+fn is_slash(kind: NodeKind) -> bool
+    ensures { result ≡ is_slash kind }
+{
+    matches!(kind, NodeKind::Slash)
 }
 
 // Whether each bare `*` is directly followed by a parameter.
@@ -73,7 +119,7 @@ fn do_stars_fit(parts: &[Found]) -> bool
 {
     let mut rest = parts;
     'parts: while let Some((part, behind)) = rest.split_first() {
-        if part.kind == NodeKind::BareStar && !does_begin_with_parameter(behind) {
+        if is_bare_star(part.kind) && !does_begin_with_parameter(behind) {
             return false;
         }
         rest = behind;
@@ -87,8 +133,24 @@ fn does_slash_fit(parts: &[Found]) -> bool
 {
     match parts {
         [] => true,
-        [first, ..] => first.kind != NodeKind::Slash,
+        [first, ..] => !is_slash(first.kind),
     }
+}
+
+fn do_parameters_fit(parts: &[Found]) -> bool
+    ensures { result ≡ parameters_fit (map (λ x. x.kind) parts.now) }
+{
+    does_slash_fit(parts) && do_stars_fit(parts) && is_in_order(Order::Parameters, parts)
+}
+
+// Whether the parameters of a lambda fit: all of its parts but the body, which is the last.
+fn does_lambda_fit(parts: &[Found]) -> bool
+    ensures { result ≡ parameters_fit (without_last (map (λ x. x.kind) parts.now)) }
+{
+    if parts.is_empty() {
+        return true;
+    }
+    do_parameters_fit(&parts[..parts.len() - 1])
 }
 
 fn makes_dict(kind: NodeKind) -> bool
@@ -144,7 +206,7 @@ fn does_begin_starred(parts: &[Found]) -> bool
 {
     match parts {
         [] => false,
-        [first, ..] => first.kind == NodeKind::Starred,
+        [first, ..] => is_starred(first.kind),
     }
 }
 
@@ -152,7 +214,7 @@ fn is_lone_star(parts: &[Found]) -> bool
     ensures { result ≡ is_lone_star (map (λ x. x.kind) parts.now) }
 {
     match parts {
-        [only] => only.kind == NodeKind::Starred,
+        [only] => is_starred(only.kind),
         _ => false,
     }
 }
@@ -162,13 +224,14 @@ pub fn does_fit(kind: NodeKind, parts: &[Found]) -> bool
     ensures { result ≡ fits kind (map (λ x. x.kind) parts.now) }
 {
     match kind {
-        NodeKind::Call => is_in_order(Order::Arguments, parts),
-        NodeKind::Lambda => does_slash_fit(parts)
-            && do_stars_fit(parts)
-            && is_in_order(Order::Parameters, parts),
+        NodeKind::Call | NodeKind::Arguments => is_in_order(Order::Arguments, parts),
+        NodeKind::Lambda => does_lambda_fit(parts),
+        NodeKind::Parameters => do_parameters_fit(parts),
         NodeKind::Curly => do_entries_fit(parts),
         NodeKind::Starred => !does_begin_starred(parts),
-        NodeKind::Round => !is_lone_star(parts),
+        NodeKind::Round => !is_lone_star(parts) && is_in_order(Order::SequencePatterns, parts),
+        NodeKind::Square | NodeKind::Patterns => is_in_order(Order::SequencePatterns, parts),
+        NodeKind::ClassPattern => is_in_order(Order::ClassPatterns, parts),
         _ => true,
     }
 }
@@ -193,6 +256,7 @@ pub fn is_of_targets(kind: NodeKind) -> bool
             | NodeKind::Round
             | NodeKind::Square
             | NodeKind::Targets
+            | NodeKind::Entries
             | NodeKind::LastComma
     )
 }
@@ -211,6 +275,41 @@ pub fn is_field(kind: NodeKind) -> bool
     matches!(kind, NodeKind::Field)
 }
 
+/// Whether a node of this kind is an operator before one part.
+pub fn is_unary(kind: NodeKind) -> bool
+    ensures { result ≡ is_unary kind }
+{
+    matches!(kind, NodeKind::Unary)
+}
+
+/// Whether a node of this kind is an operator between two parts.
+pub fn is_binary(kind: NodeKind) -> bool
+    ensures { result ≡ is_binary kind }
+{
+    matches!(kind, NodeKind::Binary)
+}
+
+/// Whether a node of this kind is of strings.
+pub fn is_strings(kind: NodeKind) -> bool
+    ensures { result ≡ is_strings kind }
+{
+    matches!(kind, NodeKind::Strings)
+}
+
+/// Whether a node of this kind is the header of a case.
+pub fn is_case(kind: NodeKind) -> bool
+    ensures { result ≡ is_case kind }
+{
+    matches!(kind, NodeKind::Case)
+}
+
+/// Whether a node of this kind is starred.
+pub fn is_starred(kind: NodeKind) -> bool
+    ensures { result ≡ is_starred kind }
+{
+    matches!(kind, NodeKind::Starred)
+}
+
 /// Whether a node of this kind has its parts in brackets or quotes.
 pub fn does_enclose(kind: NodeKind) -> bool
     ensures { result ≡ encloses kind }
@@ -226,12 +325,17 @@ pub fn does_enclose(kind: NodeKind) -> bool
     )
 }
 
-/// Whether the first part of a node of this kind is bound.
-pub fn does_bind_first(kind: NodeKind) -> bool
-    ensures { result ≡ binds_first kind }
+/// Which parts of a node of this kind are bound.
+pub fn binding_of(kind: NodeKind) -> Binding
+    ensures { result ≡ binding kind }
 {
-    matches!(
-        kind,
-        NodeKind::ComprehensionFor | NodeKind::AsyncComprehensionFor
-    )
+    match kind {
+        NodeKind::ComprehensionFor
+        | NodeKind::AsyncComprehensionFor
+        | NodeKind::For
+        | NodeKind::Del => Binding::First,
+        NodeKind::WithItem => Binding::AllButFirst,
+        NodeKind::Assign => Binding::AllButLast,
+        _ => Binding::Nothing,
+    }
 }

@@ -2,15 +2,16 @@
 
 ghost use Rattle.std.specs.Prelude.{◌≡◌, ◌==◌, ◌&&◌, nat_le, ◌≤◌, ◌<◌, [], ◌∷◌, suc, length, IfOk, IfSome, IfNone, IsSomeAnd, OnErr};
 ghost use Rattle.py_base.specs.Tree.{SyntaxTree, tree_of, IsLinked, Grows};
-ghost use Rattle.py_grammar.specs.Parse.{peek, reaches, begins, goes_on, place_at, step_at, joint_at, opening_at, read_parts, read_begin, read};
+ghost use Rattle.py_grammar.specs.Parse.{peek, begins, goes_on, place_at, step_at, joint_at, opening_at, read_parts, read_begin, read};
 ghost use Rattle.py_grammar.specs.Levelled.{IsTreeOf};
 ghost use Rattle.py_grammar.specs.declared.found.Item.TheVariants as items;
-ghost use Rattle.py_grammar.specs.Found.{AreKnown, pieces_at, FindsTree, FindsParts, Extends};
+ghost use Rattle.py_grammar.specs.Found.{AreKnown, pieces_at, FindsTree, FindsParts, Extends, item_ids, Keeps, IsNewest};
+ghost use Rattle.py_base.specs.OneTree.{AddsOneTree};
 
 use crate::assemble::assemble;
 use crate::found::{Found, Item};
 use crate::step::Step;
-use crate::table::{does_meet, edge_of, joints, may_end, openings, places_of};
+use crate::table::{does_meet, does_reach, edge_of, joints, may_end, openings, places_of};
 use crate::terminal::terminal_for;
 use crate::words::{Form, Joint, Need, Opening, Place, State, Terminal};
 use py_base::{List, NoMemory, NodeId, Tree};
@@ -27,13 +28,6 @@ fn peek_of(tokens: &[Token]) -> Terminal
         [] => Terminal::End,
         [word, ..] => terminal_for(word),
     }
-}
-
-// Whether a form meets a need, or stands at the left edge of one that does.
-fn does_reach(need: Need, form: Form) -> bool
-    ensures { result ≡ reaches need form }
-{
-    does_meet(need, form) || matches!((need, form), (Need::Expressions, Form::Starred))
 }
 
 fn begins_with(need: Need, word: Terminal) -> Option<Opening>
@@ -130,6 +124,7 @@ fn parts_from<'a>(
     requires known { AreKnown tree.old first }
     ensures older { Extends tree.old tree.new }
     ensures read { IfOk result (λ o. FindsParts (pieces_at tree.old first.entry) tree.new o (read_parts depth state tokens.now)) }
+    ensures keeps { IfOk result (λ o. IfSome o (λ x. Keeps tree.old (item_ids first.entry) tree.new (item_ids x.0))) }
 {
     let mut items = first;
     let mut state = state;
@@ -170,6 +165,7 @@ fn begin_from<'a>(
     requires { IsLinked tree.old }
     ensures older { Extends tree.old tree.new }
     ensures read { IfOk result (λ o. FindsTree tree.new o (read_begin depth need tokens.now)) }
+    ensures keeps { IfOk result (λ o. IfSome o (λ x. Keeps tree.old [] tree.new (x.0.id ∷ []) × IsNewest tree.old tree.new x.0.id)) }
 {
     let Some((word, others)) = tokens.split_first() else {
         return Ok(None);
@@ -197,6 +193,7 @@ fn tree_from<'a>(
     requires { IsLinked tree.old }
     ensures older { Extends tree.old tree.new }
     ensures read { IfOk result (λ o. FindsTree tree.new o (read depth need tokens.now)) }
+    ensures keeps { IfOk result (λ o. IfSome o (λ x. Keeps tree.old [] tree.new (x.0.id ∷ []) × IsNewest tree.old tree.new x.0.id)) }
 {
     if depth == 0 {
         return Ok(None);
@@ -244,6 +241,7 @@ fn whole_from(
     ensures older { Extends tree.old tree.new }
     ensures found { IfOk result (λ o. IfSome o (λ id. (id.0 < length tree.new.nodes) × IsTreeOf tokens.now need (tree_of tree.new id))) }
     ensures only { IfOk result (λ o. (t : SyntaxTree) → IsTreeOf tokens.now need t → IsSomeAnd o (λ id. tree_of tree.new id ≡ t)) }
+    ensures once { IfOk result (λ o. IfSome o (λ id. AddsOneTree tree.old tree.new id)) }
 {
     let Some((found, rest)) = tree_from(alloc, tree, MOST_HEIGHT, need, tokens)? else {
         return Ok(None);
@@ -255,9 +253,28 @@ fn whole_from(
     }
 }
 
-/// The one tree that the tokens spell and that meets the need: levelled, at most 256 high and
-/// proper. `None` exactly where there is none; `NoMemory` where a node or a name could not be
-/// stored. After both the tree is as before. Python 3.12 language reference, section 6.
+/// The one tree that the tokens spell and that meets the need: each part has the level that its
+/// place asks, it is at most 256 high, and it is proper. `None` exactly where there is none;
+/// `NoMemory` where a node or a name could not be stored. After both the tree is as before.
+///
+/// Proper says what the rows of the table can't:
+/// - what is bound is a name, an attribute, a subscript, `*` and such a target, or a list of targets
+///   in round or square brackets, in a comprehension, `for`, `with`, `del` and `=`; what is assigned
+///   is not one starred entry alone;
+/// - behind `name = value` stands no plain argument, and behind `**` no `*` either; one comprehension
+///   is the only argument;
+/// - `/` stands behind a parameter and before each `*` and `**`, there is one `*` at most, directly
+///   before a parameter if it has no name, and `**` is the last parameter;
+/// - the entries of curly brackets are those of a dict or those of a set;
+/// - one starred entry in round brackets has a comma behind it;
+/// - the `:` of a lambda that stands in no brackets is none of a field's value;
+/// - a sequence pattern has one `*` at most, the patterns of a class stand before those by name, and
+///   nothing is added to an imaginary number with a sign.
+///
+/// Strings side by side that are of bytes and of characters have no tree, and bytes literals hold
+/// ASCII characters alone.
+///
+/// Python 3.12 language reference, sections 6, 7 and 8.
 pub fn read_whole(
     alloc: Global,
     tokens: &[Token],
@@ -270,6 +287,8 @@ pub fn read_whole(
     ensures found { IfOk result (λ o. IfSome o (λ id. (id.0 < length tree.new.nodes) × IsTreeOf tokens.now need (tree_of tree.new id))) }
     // Each such tree is the one that is given, so that none is given only where there is none.
     ensures only { IfOk result (λ o. (t : SyntaxTree) → IsTreeOf tokens.now need t → IsSomeAnd o (λ id. tree_of tree.new id ≡ t)) }
+    // What was added is this one tree: its root is the newest node, and no node is a part twice.
+    ensures once { IfOk result (λ o. IfSome o (λ id. AddsOneTree tree.old tree.new id)) }
     ensures none { IfOk result (λ o. IfNone o (tree.new ≡ tree.old)) }
     ensures err { OnErr result (tree.new ≡ tree.old) }
 {

@@ -1,8 +1,9 @@
-//! The grammar of expressions as one table: what each token begins and goes on with, and what each
-//! form has where. `specs/Table.antt` has the same rows as a definition.
+//! The grammar of a line as one table: what each token begins and goes on with, and what each form
+//! has where. `specs/Table.antt` has the same rows as a definition.
 
 ghost use Rattle.std.specs.Prelude.{◌≡◌, ◌==◌, find};
-ghost use Rattle.py_grammar.specs.Table.{number, level, mark, also, takes_level, meets, opens, joins, edges, edge, places, is_last};
+ghost use Rattle.py_grammar.specs.Table.{number, form_number, is_among, plain, level, mark, besides, beneath, takes_level, meets, opens, joins, edges, edge_at, edge, expression_places, line_places, or_else, places, may_end_expression, may_end_statement, may_end_header, is_last};
+ghost use Rattle.py_grammar.specs.Parse.{reaches};
 
 use crate::words::{Edge, Form, Joint, Need, Opening, Place, State, Terminal};
 
@@ -61,6 +62,8 @@ pub fn level_of(form: Form) -> Option<u8>
         Form::Call => 16,
         Form::Subscript => 16,
         Form::Name => 17,
+        Form::TypeName => 17,
+        Form::Underscore => 17,
         Form::Int => 17,
         Form::Float => 17,
         Form::Imaginary => 17,
@@ -111,53 +114,389 @@ pub fn mark_of(need: Need) -> Option<u8>
         Need::IndexEntry => 1,
         Need::Target => 7,
         Need::TargetList => 7,
+        Need::Line => 0,
+        Need::SimpleStatement => 0,
+        Need::AssignedPart => 0,
+        Need::AssignedValue => 0,
+        Need::WithEntry => 2,
+        Need::Subject => 0,
         _ => return None,
     };
     Some(mark)
 }
 
-/// Whether a place takes a form whatever its level.
-fn takes_also(need: Need, form: Form) -> bool
-    ensures { result ≡ also need form }
+/// The forms that a place takes whatever their level.
+fn forms_besides(need: Need) -> &'static [Form]
+    ensures { result.now ≡ besides need }
 {
-    matches!(
-        (need, form),
-        (Need::Identifier, Form::Name)
-            | (Need::Entry, Form::Starred)
-            | (Need::StarredEntry, Form::Starred)
-            | (Need::StarOperand, Form::Starred)
-            | (Need::Element, Form::Starred)
-            | (Need::CurlyEntry, Form::Item)
-            | (Need::DoubleStarredEntry, Form::DoubleStarred)
-            | (Need::CurlyElement, Form::Item)
-            | (Need::CurlyElement, Form::Starred)
-            | (Need::CurlyElement, Form::DoubleStarred)
-            | (Need::Argument, Form::Keyword)
-            | (Need::UnpackedArgument, Form::StarArgument)
-            | (Need::UnpackedArgument, Form::DoubleStarArgument)
-            | (Need::AnyArgument, Form::Keyword)
-            | (Need::AnyArgument, Form::StarArgument)
-            | (Need::AnyArgument, Form::DoubleStarArgument)
-            | (Need::IndexEntry, Form::StarArgument)
-            | (Need::IndexEntry, Form::Slice)
-            | (Need::IndexEntry, Form::SliceFrom)
-            | (Need::Target, Form::Starred)
-            | (Need::TargetList, Form::Starred)
-            | (Need::TargetList, Form::Targets)
-            | (Need::Clause, Form::ComprehensionFor)
-            | (Need::Clause, Form::AsyncComprehensionFor)
-            | (Need::FurtherClause, Form::ComprehensionFor)
-            | (Need::FurtherClause, Form::AsyncComprehensionFor)
-            | (Need::FurtherClause, Form::ComprehensionIf)
-            | (Need::Parameter, Form::Parameter)
-            | (Need::Parameter, Form::SlashParameter)
-            | (Need::Parameter, Form::StarParameter)
-            | (Need::Parameter, Form::DoubleStarParameter)
-            | (Need::Link, Form::Link)
-            | (Need::YieldValue, Form::Yield)
-            | (Need::Field, Form::Field)
-            | (Need::Format, Form::Format)
-    )
+    match need {
+        Need::Identifier => &[Form::Name, Form::TypeName, Form::Underscore],
+        Need::Entry => &[Form::Starred],
+        Need::StarredEntry => &[Form::Starred],
+        Need::StarOperand => &[Form::Starred],
+        Need::Element => &[Form::Starred],
+        Need::CurlyEntry => &[Form::Item],
+        Need::DoubleStarredEntry => &[Form::DoubleStarred],
+        Need::CurlyElement => &[Form::Item, Form::Starred, Form::DoubleStarred],
+        Need::Argument => &[Form::Keyword],
+        Need::UnpackedArgument => &[Form::StarArgument, Form::DoubleStarArgument],
+        Need::AnyArgument => &[Form::Keyword, Form::StarArgument, Form::DoubleStarArgument],
+        Need::IndexEntry => &[Form::StarArgument, Form::Slice, Form::SliceFrom],
+        Need::Target => &[Form::Starred],
+        Need::TargetList => &[Form::Starred, Form::Targets],
+        Need::Clause => &[Form::ComprehensionFor, Form::AsyncComprehensionFor],
+        Need::FurtherClause => &[
+            Form::ComprehensionFor,
+            Form::AsyncComprehensionFor,
+            Form::ComprehensionIf,
+        ],
+        Need::Parameter => &[
+            Form::Name,
+            Form::TypeName,
+            Form::Underscore,
+            Form::Parameter,
+            Form::SlashParameter,
+            Form::StarParameter,
+            Form::DoubleStarParameter,
+        ],
+        Need::Link => &[Form::Link],
+        Need::YieldValue => &[Form::Yield],
+        Need::Field => &[Form::Field],
+        Need::Format => &[Form::Format],
+        Need::Line => &[
+            Form::Yield,
+            Form::Assign,
+            Form::AnnotatedAssign,
+            Form::AugmentedAssign,
+            Form::Pass,
+            Form::Break,
+            Form::Continue,
+            Form::Return,
+            Form::Raise,
+            Form::Global,
+            Form::Nonlocal,
+            Form::Del,
+            Form::Assert,
+            Form::Import,
+            Form::ImportFrom,
+            Form::TypeAlias,
+            Form::Statements,
+            Form::If,
+            Form::Elif,
+            Form::Else,
+            Form::While,
+            Form::For,
+            Form::Try,
+            Form::Except,
+            Form::Finally,
+            Form::With,
+            Form::Def,
+            Form::Class,
+            Form::Async,
+            Form::Decorator,
+        ],
+        Need::KeywordLine => &[
+            Form::Match,
+            Form::Case,
+            Form::BracketedWith,
+            Form::BracketedAsync,
+        ],
+        Need::SimpleStatement => &[
+            Form::Yield,
+            Form::Assign,
+            Form::AnnotatedAssign,
+            Form::AugmentedAssign,
+            Form::Pass,
+            Form::Break,
+            Form::Continue,
+            Form::Return,
+            Form::Raise,
+            Form::Global,
+            Form::Nonlocal,
+            Form::Del,
+            Form::Assert,
+            Form::Import,
+            Form::ImportFrom,
+            Form::TypeAlias,
+        ],
+        Need::AssignedPart => &[Form::Starred, Form::Yield],
+        Need::AssignedValue => &[Form::Yield],
+        Need::Reference => &[
+            Form::Name,
+            Form::TypeName,
+            Form::Underscore,
+            Form::Attribute,
+            Form::Subscript,
+        ],
+        Need::DottedName => &[
+            Form::Name,
+            Form::TypeName,
+            Form::Underscore,
+            Form::DottedName,
+        ],
+        Need::Source => &[
+            Form::Name,
+            Form::TypeName,
+            Form::Underscore,
+            Form::DottedName,
+            Form::RelativeSource,
+        ],
+        Need::ImportItem => &[
+            Form::Name,
+            Form::TypeName,
+            Form::Underscore,
+            Form::DottedName,
+            Form::Alias,
+        ],
+        Need::FromItem => &[
+            Form::Name,
+            Form::TypeName,
+            Form::Underscore,
+            Form::FromAlias,
+        ],
+        Need::TypeKeyword => &[Form::TypeName],
+        Need::TypeParameters => &[Form::TypeParameters],
+        Need::TypeParameter => &[
+            Form::Name,
+            Form::TypeName,
+            Form::Underscore,
+            Form::TypeParameter,
+            Form::StarTypeParameter,
+            Form::DoubleStarTypeParameter,
+        ],
+        Need::Suite => &[Form::Suite],
+        Need::WithEntry => &[Form::WithItem],
+        Need::Parameters => &[Form::Parameters],
+        Need::DefParameter => &[
+            Form::Name,
+            Form::TypeName,
+            Form::Underscore,
+            Form::Parameter,
+            Form::AnnotatedParameter,
+            Form::SlashParameter,
+            Form::DefStarParameter,
+            Form::DefDoubleStarParameter,
+        ],
+        Need::Result => &[Form::Result],
+        Need::Arguments => &[Form::Arguments],
+        Need::AsyncHeader => &[Form::For, Form::With, Form::Def],
+        Need::BracketedWith => &[Form::BracketedWith],
+        Need::Subject => &[Form::Named],
+        Need::Number => &[Form::Int, Form::Float, Form::Imaginary],
+        Need::RealNumber => &[Form::Int, Form::Float, Form::SignedNumber],
+        Need::ImaginaryNumber => &[Form::Imaginary],
+        Need::ClosedPattern => &[
+            Form::Name,
+            Form::TypeName,
+            Form::Underscore,
+            Form::Int,
+            Form::Float,
+            Form::Imaginary,
+            Form::Strings,
+            Form::BytesStrings,
+            Form::NoneValue,
+            Form::TrueValue,
+            Form::FalseValue,
+            Form::SignedNumber,
+            Form::ComplexNumber,
+            Form::DottedName,
+            Form::PatternRound,
+            Form::PatternSquare,
+            Form::MappingPattern,
+            Form::ClassPattern,
+        ],
+        Need::Alternatives => &[
+            Form::Name,
+            Form::TypeName,
+            Form::Underscore,
+            Form::Int,
+            Form::Float,
+            Form::Imaginary,
+            Form::Strings,
+            Form::BytesStrings,
+            Form::NoneValue,
+            Form::TrueValue,
+            Form::FalseValue,
+            Form::SignedNumber,
+            Form::ComplexNumber,
+            Form::DottedName,
+            Form::PatternRound,
+            Form::PatternSquare,
+            Form::MappingPattern,
+            Form::ClassPattern,
+            Form::OrPattern,
+        ],
+        Need::Pattern => &[
+            Form::Name,
+            Form::TypeName,
+            Form::Underscore,
+            Form::Int,
+            Form::Float,
+            Form::Imaginary,
+            Form::Strings,
+            Form::BytesStrings,
+            Form::NoneValue,
+            Form::TrueValue,
+            Form::FalseValue,
+            Form::SignedNumber,
+            Form::ComplexNumber,
+            Form::DottedName,
+            Form::PatternRound,
+            Form::PatternSquare,
+            Form::MappingPattern,
+            Form::ClassPattern,
+            Form::OrPattern,
+            Form::AsPattern,
+        ],
+        Need::PatternEntry => &[
+            Form::Name,
+            Form::TypeName,
+            Form::Underscore,
+            Form::Int,
+            Form::Float,
+            Form::Imaginary,
+            Form::Strings,
+            Form::BytesStrings,
+            Form::NoneValue,
+            Form::TrueValue,
+            Form::FalseValue,
+            Form::SignedNumber,
+            Form::ComplexNumber,
+            Form::DottedName,
+            Form::PatternRound,
+            Form::PatternSquare,
+            Form::MappingPattern,
+            Form::ClassPattern,
+            Form::OrPattern,
+            Form::AsPattern,
+            Form::StarPattern,
+        ],
+        Need::StarPattern => &[Form::StarPattern],
+        Need::CasePattern => &[
+            Form::Name,
+            Form::TypeName,
+            Form::Underscore,
+            Form::Int,
+            Form::Float,
+            Form::Imaginary,
+            Form::Strings,
+            Form::BytesStrings,
+            Form::NoneValue,
+            Form::TrueValue,
+            Form::FalseValue,
+            Form::SignedNumber,
+            Form::ComplexNumber,
+            Form::DottedName,
+            Form::PatternRound,
+            Form::PatternSquare,
+            Form::MappingPattern,
+            Form::ClassPattern,
+            Form::OrPattern,
+            Form::AsPattern,
+            Form::Patterns,
+        ],
+        Need::CapturedName => &[Form::Name, Form::TypeName],
+        Need::PatternKey => &[
+            Form::Int,
+            Form::Float,
+            Form::Imaginary,
+            Form::Strings,
+            Form::BytesStrings,
+            Form::NoneValue,
+            Form::TrueValue,
+            Form::FalseValue,
+            Form::SignedNumber,
+            Form::ComplexNumber,
+            Form::DottedName,
+        ],
+        Need::DoubleStarPattern => &[Form::DoubleStarPattern],
+        Need::PatternItem => &[Form::PatternItem],
+        Need::ClassEntry => &[
+            Form::Name,
+            Form::TypeName,
+            Form::Underscore,
+            Form::Int,
+            Form::Float,
+            Form::Imaginary,
+            Form::Strings,
+            Form::BytesStrings,
+            Form::NoneValue,
+            Form::TrueValue,
+            Form::FalseValue,
+            Form::SignedNumber,
+            Form::ComplexNumber,
+            Form::DottedName,
+            Form::PatternRound,
+            Form::PatternSquare,
+            Form::MappingPattern,
+            Form::ClassPattern,
+            Form::OrPattern,
+            Form::AsPattern,
+            Form::KeywordPattern,
+        ],
+        _ => &[],
+    }
+}
+
+/// The forms at the left edge of what a place takes, on the way to a form that it takes.
+fn forms_beneath(need: Need) -> &'static [Form]
+    ensures { result.now ≡ beneath need }
+{
+    match need {
+        Need::Expressions => &[Form::Starred],
+        Need::Line => &[Form::Starred],
+        Need::SimpleStatement => &[Form::Starred],
+        Need::AssignedValue => &[Form::Starred],
+        Need::Reference => &[
+            Form::Call,
+            Form::Int,
+            Form::Float,
+            Form::Imaginary,
+            Form::Strings,
+            Form::BytesStrings,
+            Form::NoneValue,
+            Form::TrueValue,
+            Form::FalseValue,
+            Form::Ellipsis,
+            Form::Round,
+            Form::Square,
+            Form::Curly,
+        ],
+        Need::Subject => &[Form::Starred],
+        Need::CasePattern => &[Form::StarPattern],
+        Need::PatternKey => &[Form::Name, Form::TypeName, Form::Underscore],
+        Need::PatternItem => &[
+            Form::Name,
+            Form::TypeName,
+            Form::Underscore,
+            Form::Int,
+            Form::Float,
+            Form::Imaginary,
+            Form::Strings,
+            Form::BytesStrings,
+            Form::NoneValue,
+            Form::TrueValue,
+            Form::FalseValue,
+            Form::SignedNumber,
+            Form::ComplexNumber,
+            Form::DottedName,
+        ],
+        _ => &[],
+    }
+}
+
+fn number_of_form(form: Form) -> u8
+    ensures { result ≡ form_number form }
+{
+    form as u8
+}
+
+fn is_one_of(form: Form, forms: &[Form]) -> bool
+    ensures { result ≡ is_among form forms.now }
+{
+    forms
+        .iter()
+        .any(|other| number_of_form(*other) == number_of_form(form))
 }
 
 /// Whether a place that asks a level takes a form of a level. Level 0 takes level 0 and from 2 on,
@@ -177,9 +516,16 @@ pub fn does_meet(need: Need, form: Form) -> bool
     ensures { result ≡ meets need form }
 {
     match mark_of(need) {
-        None => takes_also(need, form),
-        Some(mark) => is_taken(mark, level_of(form)) || takes_also(need, form),
+        None => is_one_of(form, forms_besides(need)),
+        Some(mark) => { is_taken(mark, level_of(form)) || is_one_of(form, forms_besides(need)) }
     }
+}
+
+/// Whether a place takes a form, or the form stands at the left edge of one that it takes.
+pub fn does_reach(need: Need, form: Form) -> bool
+    ensures { result ≡ reaches need form }
+{
+    does_meet(need, form) || is_one_of(form, forms_beneath(need))
 }
 
 /// The forms that begin with a token.
@@ -187,7 +533,11 @@ pub fn openings(word: Terminal) -> &'static [Opening]
     ensures { result.now ≡ opens word }
 {
     match word {
-        Terminal::Name => &[begins!(Name, Done), begins!(Parameter, ParameterDefault)],
+        Terminal::Name => &[begins!(Name, Done)],
+        Terminal::MatchWord => &[begins!(Name, Done), begins!(Match, MatchSubject)],
+        Terminal::CaseWord => &[begins!(Name, Done), begins!(Case, CaseFirst)],
+        Terminal::TypeWord => &[begins!(TypeName, Done)],
+        Terminal::Underscore => &[begins!(Underscore, Done)],
         Terminal::Int => &[begins!(Int, Done)],
         Terminal::Float => &[begins!(Float, Done)],
         Terminal::Imaginary => &[begins!(Imaginary, Done)],
@@ -197,34 +547,97 @@ pub fn openings(word: Terminal) -> &'static [Opening]
         Terminal::FalseWord => &[begins!(FalseValue, Done)],
         Terminal::NoneWord => &[begins!(NoneValue, Done)],
         Terminal::TrueWord => &[begins!(TrueValue, Done)],
-        Terminal::Async => &[begins!(AsyncComprehensionFor, AsyncFor)],
+        Terminal::Assert => &[begins!(Assert, AssertFirst)],
+        Terminal::Async => &[
+            begins!(AsyncComprehensionFor, AsyncFor),
+            begins!(Async, AsyncFirst),
+            begins!(BracketedAsync, BracketedAsyncFirst),
+        ],
         Terminal::Await => &[begins!(Await, LastPrimary)],
-        Terminal::For => &[begins!(ComprehensionFor, ForTargets)],
-        Terminal::If => &[begins!(ComprehensionIf, LastDisjunction)],
-        Terminal::In => &[begins!(Link, LastBitOr)],
+        Terminal::Break => &[begins!(Break, Done)],
+        Terminal::Class => &[begins!(Class, ClassName)],
+        Terminal::Continue => &[begins!(Continue, Done)],
+        Terminal::Def => &[begins!(Def, DefName)],
+        Terminal::Del => &[begins!(Del, LastTargets)],
+        Terminal::Elif => &[begins!(Elif, HeaderTest)],
+        Terminal::Else => &[begins!(Else, LastSuite)],
+        Terminal::Except => &[begins!(Except, ExceptFirst)],
+        Terminal::Finally => &[begins!(Finally, LastSuite)],
+        Terminal::For => &[
+            begins!(ComprehensionFor, ForTargets),
+            begins!(For, LoopTargets),
+        ],
+        Terminal::From => &[begins!(ImportFrom, FromSource)],
+        Terminal::Global => &[begins!(Global, NameNext)],
+        Terminal::If => &[
+            begins!(ComprehensionIf, LastDisjunction),
+            begins!(If, HeaderTest),
+        ],
+        Terminal::Import => &[begins!(Import, ImportNext)],
+        Terminal::In => &[begins!(Link, Done)],
         Terminal::Is => &[begins!(Link, LinkIs)],
         Terminal::Lambda => &[begins!(Lambda, LambdaNext)],
+        Terminal::Nonlocal => &[begins!(Nonlocal, NameNext)],
         Terminal::Not => &[begins!(Not, LastInversion), begins!(Link, LinkNot)],
+        Terminal::Pass => &[begins!(Pass, Done)],
+        Terminal::Raise => &[begins!(Raise, RaiseFirst)],
+        Terminal::Return => &[begins!(Return, ReturnFirst)],
+        Terminal::Try => &[begins!(Try, LastSuite)],
+        Terminal::While => &[begins!(While, HeaderTest)],
+        Terminal::With => &[
+            begins!(With, WithNext),
+            begins!(BracketedWith, BracketedWithFirst),
+        ],
         Terminal::Yield => &[begins!(Yield, YieldFirst)],
-        Terminal::PlusMinus => &[begins!(Unary, LastFactor)],
+        Terminal::Plus => &[begins!(Unary, LastFactor)],
+        Terminal::Minus => &[
+            begins!(Unary, LastFactor),
+            begins!(SignedNumber, LastNumber),
+        ],
         Terminal::Tilde => &[begins!(Unary, LastFactor)],
         Terminal::Star => &[
             begins!(Starred, LastStarOperand),
             begins!(StarArgument, LastExpression),
             begins!(StarParameter, StarParameterName),
+            begins!(DefStarParameter, DefStarName),
+            begins!(StarTypeParameter, LastIdentifier),
+            begins!(StarPattern, LastIdentifier),
         ],
         Terminal::DoubleStar => &[
             begins!(DoubleStarred, LastBitOr),
             begins!(DoubleStarArgument, LastExpression),
-            begins!(DoubleStarParameter, DoubleStarName),
+            begins!(DoubleStarParameter, LastIdentifier),
+            begins!(DefDoubleStarParameter, DefDoubleStarName),
+            begins!(DoubleStarTypeParameter, LastIdentifier),
+            begins!(DoubleStarPattern, LastCapturedName),
         ],
         Terminal::Slash => &[begins!(SlashParameter, Done)],
-        Terminal::Compare => &[begins!(Link, LastBitOr)],
-        Terminal::OpenRound => &[begins!(Round, RoundFirst)],
-        Terminal::OpenSquare => &[begins!(Square, SquareFirst)],
-        Terminal::OpenCurly => &[begins!(Curly, CurlyFirst), begins!(Field, FieldFirst)],
-        Terminal::Colon => &[begins!(Slice, SliceFirst), begins!(Format, FormatNext)],
-        Terminal::Ellipsis => &[begins!(Ellipsis, Done)],
+        Terminal::At => &[begins!(Decorator, LastNamed)],
+        Terminal::Compare => &[begins!(Link, Done)],
+        Terminal::OpenRound => &[
+            begins!(Round, RoundFirst),
+            begins!(Parameters, ParametersNext),
+            begins!(Arguments, CallFirst),
+            begins!(PatternRound, PatternRoundFirst),
+        ],
+        Terminal::OpenSquare => &[
+            begins!(Square, SquareFirst),
+            begins!(TypeParameters, TypeParametersFirst),
+            begins!(PatternSquare, PatternSquareNext),
+        ],
+        Terminal::OpenCurly => &[
+            begins!(Curly, CurlyFirst),
+            begins!(Field, FieldFirst),
+            begins!(MappingPattern, MappingNext),
+        ],
+        Terminal::Colon => &[
+            begins!(Slice, SliceFirst),
+            begins!(Format, FormatNext),
+            begins!(Suite, SuiteFirst),
+        ],
+        Terminal::Dot => &[begins!(RelativeSource, DotsMore)],
+        Terminal::Ellipsis => &[begins!(Ellipsis, Done), begins!(RelativeSource, DotsMore)],
+        Terminal::Arrow => &[begins!(Result, LastExpression)],
         _ => &[],
     }
 }
@@ -234,35 +647,75 @@ pub fn joints(word: Terminal) -> &'static [Joint]
     ensures { result.now ≡ joins word }
 {
     match word {
+        Terminal::Name => &[goes_on!(TypeKeyword, TypeAlias, AliasParameters)],
+        Terminal::MatchWord => &[goes_on!(TypeKeyword, TypeAlias, AliasParameters)],
+        Terminal::CaseWord => &[goes_on!(TypeKeyword, TypeAlias, AliasParameters)],
+        Terminal::TypeWord => &[goes_on!(TypeKeyword, TypeAlias, AliasParameters)],
+        Terminal::Underscore => &[goes_on!(TypeKeyword, TypeAlias, AliasParameters)],
         Terminal::And => &[goes_on!(Conjunction, And, LastInversion)],
+        Terminal::As => &[
+            goes_on!(DottedName, Alias, LastIdentifier),
+            goes_on!(Identifier, FromAlias, LastIdentifier),
+            goes_on!(Expression, WithItem, LastTarget),
+            goes_on!(Alternatives, AsPattern, LastCapturedName),
+        ],
         Terminal::If => &[goes_on!(Disjunction, Conditional, ConditionalTest)],
         Terminal::In => &[goes_on!(BitOr, Comparison, Compared)],
         Terminal::Is => &[goes_on!(BitOr, Comparison, ComparedIs)],
         Terminal::Not => &[goes_on!(BitOr, Comparison, ComparedNot)],
         Terminal::Or => &[goes_on!(Disjunction, Or, LastConjunction)],
-        Terminal::PlusMinus => &[goes_on!(Sum, Sum, LastTerm)],
+        Terminal::Plus => &[
+            goes_on!(Sum, Sum, LastTerm),
+            goes_on!(RealNumber, ComplexNumber, LastImaginary),
+        ],
+        Terminal::Minus => &[
+            goes_on!(Sum, Sum, LastTerm),
+            goes_on!(RealNumber, ComplexNumber, LastImaginary),
+        ],
         Terminal::Star => &[goes_on!(Term, Product, LastFactor)],
         Terminal::DoubleStar => &[goes_on!(Await, Power, LastFactor)],
         Terminal::Slash => &[goes_on!(Term, Product, LastFactor)],
         Terminal::Times => &[goes_on!(Term, Product, LastFactor)],
+        Terminal::At => &[goes_on!(Term, Product, LastFactor)],
         Terminal::Shift => &[goes_on!(Shift, Shift, LastSum)],
         Terminal::Ampersand => &[goes_on!(BitAnd, BitAnd, LastShift)],
-        Terminal::Bar => &[goes_on!(BitOr, BitOr, LastBitXor)],
+        Terminal::Bar => &[
+            goes_on!(BitOr, BitOr, LastBitXor),
+            goes_on!(ClosedPattern, OrPattern, OrNext),
+        ],
         Terminal::Caret => &[goes_on!(BitXor, BitXor, LastBitAnd)],
         Terminal::Walrus => &[goes_on!(Identifier, Named, LastExpression)],
         Terminal::Compare => &[goes_on!(BitOr, Comparison, Compared)],
-        Terminal::OpenRound => &[goes_on!(Primary, Call, CallFirst)],
+        Terminal::OpenRound => &[
+            goes_on!(Primary, Call, CallFirst),
+            goes_on!(DottedName, ClassPattern, ClassPatternNext),
+        ],
         Terminal::OpenSquare => &[goes_on!(Primary, Subscript, IndexFirst)],
         Terminal::Comma => &[
             goes_on!(Entry, Entries, EntryNext),
             goes_on!(Target, Targets, TargetNext),
+            goes_on!(PatternEntry, Patterns, PatternsNext),
         ],
         Terminal::Colon => &[
             goes_on!(Expression, Item, LastExpression),
             goes_on!(Expression, SliceFrom, SliceFirst),
+            goes_on!(Reference, AnnotatedAssign, AnnotationFirst),
+            goes_on!(Identifier, TypeParameter, LastExpression),
+            goes_on!(Identifier, AnnotatedParameter, ParameterAnnotation),
+            goes_on!(PatternKey, PatternItem, LastPattern),
         ],
-        Terminal::Dot => &[goes_on!(Primary, Attribute, AttributeName)],
-        Terminal::Assign => &[goes_on!(Identifier, Keyword, LastExpression)],
+        Terminal::Semicolon => &[goes_on!(SimpleStatement, Statements, StatementNext)],
+        Terminal::Dot => &[
+            goes_on!(Primary, Attribute, LastName),
+            goes_on!(DottedName, DottedName, LastName),
+        ],
+        Terminal::Assign => &[
+            goes_on!(Identifier, Keyword, LastExpression),
+            goes_on!(Identifier, Parameter, LastExpression),
+            goes_on!(AssignedPart, Assign, AssignNext),
+            goes_on!(Identifier, KeywordPattern, LastPattern),
+        ],
+        Terminal::AugmentedAssign => &[goes_on!(Reference, AugmentedAssign, LastAssigned)],
         _ => &[],
     }
 }
@@ -272,14 +725,14 @@ fn edges_of(state: State) -> &'static [Edge]
     ensures { result.now ≡ edges state }
 {
     match state {
+        State::LastName => &[word!(Name, Done)],
         State::EntryMore => &[word!(Comma, EntryNext)],
         State::TargetMore => &[word!(Comma, TargetNext)],
         State::ConditionalElse => &[word!(Else, LastExpression)],
         State::ComparedNot => &[word!(In, Compared)],
         State::ComparedIs => &[word!(Not, Compared)],
-        State::LinkNot => &[word!(In, LastBitOr)],
-        State::LinkIs => &[word!(Not, LastBitOr)],
-        State::AttributeName => &[word!(Name, Done)],
+        State::LinkNot => &[word!(In, Done)],
+        State::LinkIs => &[word!(Not, Done)],
         State::CallFirst => &[word!(CloseRound, Done)],
         State::CallAfterFirst => &[word!(Comma, CallNext), word!(CloseRound, Done)],
         State::CallNext => &[word!(CloseRound, Done)],
@@ -289,9 +742,7 @@ fn edges_of(state: State) -> &'static [Edge]
         State::IndexNext => &[word!(CloseSquare, Done)],
         State::LambdaNext => &[word!(Colon, LastExpression)],
         State::LambdaMore => &[word!(Comma, LambdaNext), word!(Colon, LastExpression)],
-        State::ParameterDefault => &[word!(Assign, LastExpression)],
         State::StarParameterName => &[word!(Name, Done)],
-        State::DoubleStarName => &[word!(Name, Done)],
         State::RoundFirst => &[word!(CloseRound, Done)],
         State::RoundClose => &[word!(CloseRound, Done)],
         State::RoundAfterFirst => &[word!(Comma, RoundNext), word!(CloseRound, Done)],
@@ -324,11 +775,62 @@ fn edges_of(state: State) -> &'static [Edge]
         State::FBody => &[word!(FText, FBody), word!(FEnd, StringsMore)],
         State::StringsMore => &[word!(Str, StringsMore), word!(FStart, FBody)],
         State::BytesMore => &[word!(BytesStr, BytesMore)],
+        State::StatementMore => &[word!(Semicolon, StatementNext)],
+        State::AssignMore => &[word!(Assign, AssignNext)],
+        State::AnnotationMore => &[word!(Assign, LastAssigned)],
+        State::RaiseMore => &[word!(From, LastExpression)],
+        State::NameMore => &[word!(Comma, NameNext)],
+        State::AssertMore => &[word!(Comma, LastExpression)],
+        State::ImportMore => &[word!(Comma, ImportNext)],
+        State::FromImport => &[word!(Import, FromFirst)],
+        State::FromFirst => &[word!(Star, Done), word!(OpenRound, FromBracketed)],
+        State::FromMore => &[word!(Comma, FromNext)],
+        State::FromBracketedMore => &[word!(Comma, FromBracketedNext), word!(CloseRound, Done)],
+        State::FromBracketedNext => &[word!(CloseRound, Done)],
+        State::DotsMore => &[word!(Dot, DotsMore), word!(Ellipsis, DotsMore)],
+        State::AliasParameters => &[word!(Assign, LastExpression)],
+        State::AliasAssign => &[word!(Assign, LastExpression)],
+        State::TypeParametersNext => &[word!(CloseSquare, Done)],
+        State::TypeParametersMore => &[word!(Comma, TypeParametersNext), word!(CloseSquare, Done)],
+        State::SuiteMore => &[word!(Semicolon, SuiteNext)],
+        State::LoopIn => &[word!(In, LoopOver)],
+        State::ExceptFirst => &[word!(Star, ExceptClass)],
+        State::ExceptMore => &[word!(As, ExceptName)],
+        State::WithMore => &[word!(Comma, WithNext)],
+        State::BracketedWithFirst => &[word!(OpenRound, BracketedItem)],
+        State::BracketedItemNext => &[word!(CloseRound, LastSuite)],
+        State::BracketedItemMore => &[
+            word!(Comma, BracketedItemNext),
+            word!(CloseRound, LastSuite),
+        ],
+        State::ParametersNext => &[word!(CloseRound, Done)],
+        State::ParametersMore => &[word!(Comma, ParametersNext), word!(CloseRound, Done)],
+        State::ParameterDefault => &[word!(Assign, LastExpression)],
+        State::DefStarName => &[word!(Name, StarAnnotation)],
+        State::DefDoubleStarName => &[word!(Name, StarAnnotation)],
+        State::StarAnnotation => &[word!(Colon, LastExpression)],
+        State::MatchColon => &[word!(Colon, Done)],
+        State::CaseGuard => &[word!(If, HeaderTest)],
+        State::PatternRoundFirst => &[word!(CloseRound, Done)],
+        State::PatternRoundStar => &[word!(Comma, PatternRoundNext)],
+        State::PatternRoundNext => &[word!(CloseRound, Done)],
+        State::PatternRoundMore => &[word!(Comma, PatternRoundNext), word!(CloseRound, Done)],
+        State::PatternSquareNext => &[word!(CloseSquare, Done)],
+        State::PatternSquareMore => &[word!(Comma, PatternSquareNext), word!(CloseSquare, Done)],
+        State::PatternsMore => &[word!(Comma, PatternsNext)],
+        State::MappingNext => &[word!(CloseCurly, Done)],
+        State::MappingMore => &[word!(Comma, MappingNext), word!(CloseCurly, Done)],
+        State::MappingRest => &[word!(Comma, MappingClose), word!(CloseCurly, Done)],
+        State::MappingClose => &[word!(CloseCurly, Done)],
+        State::ClassPatternNext => &[word!(CloseRound, Done)],
+        State::ClassPatternMore => &[word!(Comma, ClassPatternNext), word!(CloseRound, Done)],
+        State::OrMore => &[word!(Bar, OrNext)],
         _ => &[],
     }
 }
 
-fn number_of(word: Terminal) -> u8
+/// The number of a terminal, by which terminals are compared.
+pub fn number_of(word: Terminal) -> u8
     ensures { result ≡ number word }
 {
     word as u8
@@ -343,9 +845,21 @@ fn edge_in(edges: &[Edge], word: Terminal) -> Option<Edge>
         .find(|e| number_of(e.word) == number_of(word))
 }
 
-/// The state behind a token at a state. `None` where the form has no such token there.
-pub fn edge_of(state: State, word: Terminal) -> Option<State>
-    ensures { result ≡ edge state word }
+/// The terminal as a word of a form: there a soft keyword is a name.
+pub fn plain_of(word: Terminal) -> Terminal
+    ensures { result ≡ plain word }
+{
+    match word {
+        Terminal::MatchWord => Terminal::Name,
+        Terminal::CaseWord => Terminal::Name,
+        Terminal::TypeWord => Terminal::Name,
+        Terminal::Underscore => Terminal::Name,
+        _ => word,
+    }
+}
+
+fn edge_at(state: State, word: Terminal) -> Option<State>
+    ensures { result ≡ edge_at state word }
 {
     match edge_in(edges_of(state), word) {
         Some(found) => Some(found.after),
@@ -353,9 +867,16 @@ pub fn edge_of(state: State, word: Terminal) -> Option<State>
     }
 }
 
-/// The parts that may stand at a state. No token begins two of them.
-pub fn places_of(state: State) -> &'static [Place]
-    ensures { result.now ≡ places state }
+/// The state behind a token at a state. `None` where the form has no such token there.
+pub fn edge_of(state: State, word: Terminal) -> Option<State>
+    ensures { result ≡ edge state word }
+{
+    edge_at(state, plain_of(word))
+}
+
+// The parts that may stand at a state of an expression.
+fn expression_places_of(state: State) -> &'static [Place]
+    ensures { result.now ≡ expression_places state }
 {
     match state {
         State::LastExpression => &[part!(Expression, Done)],
@@ -371,13 +892,14 @@ pub fn places_of(state: State) -> &'static [Place]
         State::LastFactor => &[part!(Factor, Done)],
         State::LastPrimary => &[part!(Primary, Done)],
         State::LastStarOperand => &[part!(StarOperand, Done)],
+        State::LastIdentifier => &[part!(Identifier, Done)],
         State::EntryNext => &[part!(Entry, EntryMore)],
         State::TargetNext => &[part!(Target, TargetMore)],
         State::ConditionalTest => &[part!(Disjunction, ConditionalElse)],
         State::Compared => &[part!(BitOr, ComparedMore)],
         State::ComparedIs => &[part!(BitOr, ComparedMore)],
-        State::ComparedMore => &[part!(Link, ComparedMore)],
-        State::LinkIs => &[part!(BitOr, Done)],
+        State::ComparedMore => &[part!(Link, LinkOperand)],
+        State::LinkOperand => &[part!(BitOr, ComparedMore)],
         State::CallFirst => &[
             part!(UnpackedArgument, CallMore),
             part!(Argument, CallAfterFirst),
@@ -424,9 +946,101 @@ pub fn places_of(state: State) -> &'static [Place]
     }
 }
 
-/// Whether a form may end at a state.
-pub fn may_end(state: State) -> bool
-    ensures { result ≡ is_last state }
+// The parts that may stand at a state of a statement, a header or a pattern.
+fn line_places_of(state: State) -> &'static [Place]
+    ensures { result.now ≡ line_places state }
+{
+    match state {
+        State::StatementNext => &[part!(SimpleStatement, StatementMore)],
+        State::AssignNext => &[part!(AssignedPart, AssignMore)],
+        State::AnnotationFirst => &[part!(Expression, AnnotationMore)],
+        State::LastAssigned => &[part!(AssignedValue, Done)],
+        State::ReturnFirst => &[part!(Expressions, Done)],
+        State::RaiseFirst => &[part!(Expression, RaiseMore)],
+        State::NameNext => &[part!(Identifier, NameMore)],
+        State::LastTargets => &[part!(TargetList, Done)],
+        State::AssertFirst => &[part!(Expression, AssertMore)],
+        State::ImportNext => &[part!(ImportItem, ImportMore)],
+        State::FromSource => &[part!(Source, FromImport)],
+        State::FromFirst => &[part!(FromItem, FromMore)],
+        State::FromNext => &[part!(FromItem, FromMore)],
+        State::FromBracketed => &[part!(FromItem, FromBracketedMore)],
+        State::FromBracketedNext => &[part!(FromItem, FromBracketedMore)],
+        State::DotsMore => &[part!(DottedName, Done)],
+        State::AliasParameters => &[part!(TypeParameters, AliasAssign)],
+        State::TypeParametersFirst => &[part!(TypeParameter, TypeParametersMore)],
+        State::TypeParametersNext => &[part!(TypeParameter, TypeParametersMore)],
+        State::SuiteFirst => &[part!(SimpleStatement, SuiteMore)],
+        State::SuiteNext => &[part!(SimpleStatement, SuiteMore)],
+        State::LastSuite => &[part!(Suite, Done)],
+        State::HeaderTest => &[part!(Named, LastSuite)],
+        State::LoopTargets => &[part!(TargetList, LoopIn)],
+        State::LoopOver => &[part!(Expressions, LastSuite)],
+        State::ExceptFirst => &[part!(Expression, ExceptMore), part!(Suite, Done)],
+        State::ExceptClass => &[part!(Expression, ExceptMore)],
+        State::ExceptMore => &[part!(Suite, Done)],
+        State::ExceptName => &[part!(Identifier, LastSuite)],
+        State::WithNext => &[part!(WithEntry, WithMore)],
+        State::WithMore => &[part!(Suite, Done)],
+        State::BracketedItem => &[part!(WithEntry, BracketedItemMore)],
+        State::BracketedItemNext => &[part!(WithEntry, BracketedItemMore)],
+        State::LastTarget => &[part!(Target, Done)],
+        State::DefName => &[part!(Identifier, DefParameters)],
+        State::DefParameters => &[
+            part!(TypeParameters, DefBracket),
+            part!(Parameters, DefResult),
+        ],
+        State::DefBracket => &[part!(Parameters, DefResult)],
+        State::DefResult => &[part!(Result, LastSuite), part!(Suite, Done)],
+        State::ParametersNext => &[part!(DefParameter, ParametersMore)],
+        State::ParameterAnnotation => &[part!(Expression, ParameterDefault)],
+        State::ClassName => &[part!(Identifier, ClassParameters)],
+        State::ClassParameters => &[
+            part!(TypeParameters, ClassBracket),
+            part!(Arguments, LastSuite),
+            part!(Suite, Done),
+        ],
+        State::ClassBracket => &[part!(Arguments, LastSuite), part!(Suite, Done)],
+        State::AsyncFirst => &[part!(AsyncHeader, Done)],
+        State::BracketedAsyncFirst => &[part!(BracketedWith, Done)],
+        State::LastNamed => &[part!(Named, Done)],
+        State::MatchSubject => &[part!(Subject, MatchColon)],
+        State::CaseFirst => &[part!(CasePattern, CaseGuard)],
+        State::CaseGuard => &[part!(Suite, Done)],
+        State::LastNumber => &[part!(Number, Done)],
+        State::LastImaginary => &[part!(ImaginaryNumber, Done)],
+        State::LastPattern => &[part!(Pattern, Done)],
+        State::LastCapturedName => &[part!(CapturedName, Done)],
+        State::PatternRoundFirst => &[
+            part!(StarPattern, PatternRoundStar),
+            part!(Pattern, PatternRoundMore),
+        ],
+        State::PatternRoundNext => &[part!(PatternEntry, PatternRoundMore)],
+        State::PatternSquareNext => &[part!(PatternEntry, PatternSquareMore)],
+        State::PatternsNext => &[part!(PatternEntry, PatternsMore)],
+        State::MappingNext => &[
+            part!(DoubleStarPattern, MappingRest),
+            part!(PatternItem, MappingMore),
+        ],
+        State::ClassPatternNext => &[part!(ClassEntry, ClassPatternMore)],
+        State::OrNext => &[part!(ClosedPattern, OrMore)],
+        _ => &[],
+    }
+}
+
+/// The parts that may stand at a state. No token begins two of them.
+pub fn places_of(state: State) -> &'static [Place]
+    ensures { result.now ≡ places state }
+{
+    match expression_places_of(state) {
+        [] => line_places_of(state),
+        places => places,
+    }
+}
+
+// Whether an expression may end at a state.
+fn may_end_expression(state: State) -> bool
+    ensures { result ≡ may_end_expression state }
 {
     matches!(
         state,
@@ -436,7 +1050,7 @@ pub fn may_end(state: State) -> bool
             | State::TargetNext
             | State::TargetMore
             | State::ComparedMore
-            | State::ParameterDefault
+            | State::LinkIs
             | State::StarParameterName
             | State::SliceFirst
             | State::SliceSecond
@@ -446,4 +1060,50 @@ pub fn may_end(state: State) -> bool
             | State::StringsMore
             | State::BytesMore
     )
+}
+
+// Whether a simple statement may end at a state.
+fn may_end_statement(state: State) -> bool
+    ensures { result ≡ may_end_statement state }
+{
+    matches!(
+        state,
+        State::StatementNext
+            | State::StatementMore
+            | State::AssignMore
+            | State::AnnotationMore
+            | State::ReturnFirst
+            | State::RaiseFirst
+            | State::RaiseMore
+            | State::NameMore
+            | State::AssertMore
+            | State::ImportMore
+            | State::FromMore
+            | State::DotsMore
+    )
+}
+
+// Whether a part of a header, or a pattern, may end at a state.
+fn may_end_header(state: State) -> bool
+    ensures { result ≡ may_end_header state }
+{
+    matches!(
+        state,
+        State::SuiteFirst
+            | State::SuiteNext
+            | State::SuiteMore
+            | State::ParameterDefault
+            | State::DefStarName
+            | State::StarAnnotation
+            | State::PatternsNext
+            | State::PatternsMore
+            | State::OrMore
+    )
+}
+
+/// Whether a form may end at a state.
+pub fn may_end(state: State) -> bool
+    ensures { result ≡ is_last state }
+{
+    may_end_expression(state) || may_end_statement(state) || may_end_header(state)
 }

@@ -1,12 +1,12 @@
 //! What each token is to the grammar.
 ghost use Rattle.std.specs.Prelude.{◌≡◌};
-ghost use Rattle.py_grammar.specs.Terminal.{lookup, keywords_to_for, keywords_from_from, punctuation, brackets, arithmetic, comparisons, bitwise, keyword_terminal, operator_terminal, string_terminal, is_bytes_literal, is_ascii_text, terminal_of, terminal};
+ghost use Rattle.py_grammar.specs.Terminal.{lookup, keywords_to_await, keywords_to_except, keywords_to_is, keywords_to_yield, soft_keywords, punctuation, brackets, arithmetic, comparisons, bitwise, augmented, keyword_terminal, name_terminal, operator_terminal, string_terminal, is_bytes_literal, is_ascii_text, terminal_of, terminal};
 
 use crate::words::Terminal;
 use py_tokens::{Token, TokenKind, int_value};
 
-fn keyword_to_for(text: &str) -> Option<Terminal>
-    ensures { result ≡ lookup keywords_to_for text.now }
+fn keyword_to_await(text: &str) -> Option<Terminal>
+    ensures { result ≡ lookup keywords_to_await text.now }
 {
     if text == "False" {
         Some(Terminal::FalseWord)
@@ -16,38 +16,108 @@ fn keyword_to_for(text: &str) -> Option<Terminal>
         Some(Terminal::TrueWord)
     } else if text == "and" {
         Some(Terminal::And)
+    } else if text == "as" {
+        Some(Terminal::As)
+    } else if text == "assert" {
+        Some(Terminal::Assert)
     } else if text == "async" {
         Some(Terminal::Async)
     } else if text == "await" {
         Some(Terminal::Await)
-    } else if text == "else" {
-        Some(Terminal::Else)
-    } else if text == "for" {
-        Some(Terminal::For)
     } else {
         None
     }
 }
 
-fn keyword_from_from(text: &str) -> Option<Terminal>
-    ensures { result ≡ lookup keywords_from_from text.now }
+fn keyword_to_except(text: &str) -> Option<Terminal>
+    ensures { result ≡ lookup keywords_to_except text.now }
 {
-    if text == "from" {
+    if text == "break" {
+        Some(Terminal::Break)
+    } else if text == "class" {
+        Some(Terminal::Class)
+    } else if text == "continue" {
+        Some(Terminal::Continue)
+    } else if text == "def" {
+        Some(Terminal::Def)
+    } else if text == "del" {
+        Some(Terminal::Del)
+    } else if text == "elif" {
+        Some(Terminal::Elif)
+    } else if text == "else" {
+        Some(Terminal::Else)
+    } else if text == "except" {
+        Some(Terminal::Except)
+    } else {
+        None
+    }
+}
+
+fn keyword_to_is(text: &str) -> Option<Terminal>
+    ensures { result ≡ lookup keywords_to_is text.now }
+{
+    if text == "finally" {
+        Some(Terminal::Finally)
+    } else if text == "for" {
+        Some(Terminal::For)
+    } else if text == "from" {
         Some(Terminal::From)
+    } else if text == "global" {
+        Some(Terminal::Global)
     } else if text == "if" {
         Some(Terminal::If)
+    } else if text == "import" {
+        Some(Terminal::Import)
     } else if text == "in" {
         Some(Terminal::In)
     } else if text == "is" {
         Some(Terminal::Is)
-    } else if text == "lambda" {
+    } else {
+        None
+    }
+}
+
+fn keyword_to_yield(text: &str) -> Option<Terminal>
+    ensures { result ≡ lookup keywords_to_yield text.now }
+{
+    if text == "lambda" {
         Some(Terminal::Lambda)
+    } else if text == "nonlocal" {
+        Some(Terminal::Nonlocal)
     } else if text == "not" {
         Some(Terminal::Not)
     } else if text == "or" {
         Some(Terminal::Or)
+    } else if text == "pass" {
+        Some(Terminal::Pass)
+    } else if text == "raise" {
+        Some(Terminal::Raise)
+    } else if text == "return" {
+        Some(Terminal::Return)
+    } else if text == "try" {
+        Some(Terminal::Try)
+    } else if text == "while" {
+        Some(Terminal::While)
+    } else if text == "with" {
+        Some(Terminal::With)
     } else if text == "yield" {
         Some(Terminal::Yield)
+    } else {
+        None
+    }
+}
+
+fn soft_keyword(text: &str) -> Option<Terminal>
+    ensures { result ≡ lookup soft_keywords text.now }
+{
+    if text == "match" {
+        Some(Terminal::MatchWord)
+    } else if text == "case" {
+        Some(Terminal::CaseWord)
+    } else if text == "type" {
+        Some(Terminal::TypeWord)
+    } else if text == "_" {
+        Some(Terminal::Underscore)
     } else {
         None
     }
@@ -68,6 +138,10 @@ fn punctuation_mark(text: &str) -> Option<Terminal>
         Some(Terminal::Walrus)
     } else if text == "..." {
         Some(Terminal::Ellipsis)
+    } else if text == ";" {
+        Some(Terminal::Semicolon)
+    } else if text == "->" {
+        Some(Terminal::Arrow)
     } else {
         None
     }
@@ -97,9 +171,9 @@ fn arithmetic_operator(text: &str) -> Option<Terminal>
     ensures { result ≡ lookup arithmetic text.now }
 {
     if text == "+" {
-        Some(Terminal::PlusMinus)
+        Some(Terminal::Plus)
     } else if text == "-" {
-        Some(Terminal::PlusMinus)
+        Some(Terminal::Minus)
     } else if text == "*" {
         Some(Terminal::Star)
     } else if text == "/" {
@@ -107,11 +181,45 @@ fn arithmetic_operator(text: &str) -> Option<Terminal>
     } else if text == "%" {
         Some(Terminal::Times)
     } else if text == "@" {
-        Some(Terminal::Times)
+        Some(Terminal::At)
     } else if text == "//" {
         Some(Terminal::Times)
     } else if text == "**" {
         Some(Terminal::DoubleStar)
+    } else {
+        None
+    }
+}
+
+fn augmented_operator(text: &str) -> Option<Terminal>
+    ensures { result ≡ lookup augmented text.now }
+{
+    if text == "+=" {
+        Some(Terminal::AugmentedAssign)
+    } else if text == "-=" {
+        Some(Terminal::AugmentedAssign)
+    } else if text == "*=" {
+        Some(Terminal::AugmentedAssign)
+    } else if text == "/=" {
+        Some(Terminal::AugmentedAssign)
+    } else if text == "//=" {
+        Some(Terminal::AugmentedAssign)
+    } else if text == "%=" {
+        Some(Terminal::AugmentedAssign)
+    } else if text == "@=" {
+        Some(Terminal::AugmentedAssign)
+    } else if text == "&=" {
+        Some(Terminal::AugmentedAssign)
+    } else if text == "|=" {
+        Some(Terminal::AugmentedAssign)
+    } else if text == "^=" {
+        Some(Terminal::AugmentedAssign)
+    } else if text == ">>=" {
+        Some(Terminal::AugmentedAssign)
+    } else if text == "<<=" {
+        Some(Terminal::AugmentedAssign)
+    } else if text == "**=" {
+        Some(Terminal::AugmentedAssign)
     } else {
         None
     }
@@ -160,12 +268,27 @@ fn bitwise_operator(text: &str) -> Option<Terminal>
 fn keyword(text: &str) -> Terminal
     ensures { result ≡ keyword_terminal text.now }
 {
-    if let Some(word) = keyword_to_for(text) {
+    if let Some(word) = keyword_to_await(text) {
         return word;
     }
-    match keyword_from_from(text) {
+    if let Some(word) = keyword_to_except(text) {
+        return word;
+    }
+    if let Some(word) = keyword_to_is(text) {
+        return word;
+    }
+    match keyword_to_yield(text) {
         Some(word) => word,
         None => Terminal::Other,
+    }
+}
+
+fn name(text: &str) -> Terminal
+    ensures { result ≡ name_terminal text.now }
+{
+    match soft_keyword(text) {
+        Some(word) => word,
+        None => Terminal::Name,
     }
 }
 
@@ -184,7 +307,10 @@ fn operator(text: &str) -> Terminal
     if let Some(word) = comparison_operator(text) {
         return word;
     }
-    match bitwise_operator(text) {
+    if let Some(word) = bitwise_operator(text) {
+        return word;
+    }
+    match augmented_operator(text) {
         Some(word) => word,
         None => Terminal::Other,
     }
@@ -223,7 +349,7 @@ fn terminal_by(kind: TokenKind, text: &str) -> Terminal
     ensures { result ≡ terminal_of kind text.now }
 {
     match kind {
-        TokenKind::Name => Terminal::Name,
+        TokenKind::Name => name(text),
         TokenKind::Keyword => keyword(text),
         TokenKind::Int if int_value(text).is_none() => Terminal::Other,
         TokenKind::Int => Terminal::Int,
@@ -238,7 +364,7 @@ fn terminal_by(kind: TokenKind, text: &str) -> Terminal
     }
 }
 
-/// What a token is to the grammar. A word or a literal that stands in no expression is `Other`.
+/// What a token is to the grammar. A word or a literal that stands in no line is `Other`.
 #[tactic(auto, unfolding(crate::specs::Terminal::terminal))]
 pub fn terminal_for(token: &Token) -> Terminal
     ensures { result ≡ terminal token.now }

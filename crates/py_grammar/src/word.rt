@@ -1,13 +1,14 @@
 //! What is kept of the tokens of a node: its kind, its span and its word.
-ghost use Rattle.std.specs.Prelude.{◌≡◌, ◌<◌, ℕ, List, length, find, fold, option_map, true, IfOk, Some, None};
+ghost use Rattle.std.specs.Prelude.{◌≡◌, ◌<◌, ℕ, List, length, find, fold, option_map, true, IfOk, OnOk, Some, None, not, ◌&&◌};
 ghost use Rattle.py_base.specs.Tree.{said, IsNamed, Grows, IsLinked};
-ghost use Rattle.py_grammar.specs.Meaning.{is_word, has_word, first_word, kind_of_form, kind_for, arithmetic_ops, comparison_ops, bitwise_ops, conversions, op_of_text, spelled_op, op_of_words, operated, takes_name, takes_op, said_plainly, said_for, mark_for, valued, value_of, named, converted};
+ghost use Rattle.py_grammar.specs.Meaning.{is_word, has_word, first_word, kind_of_form, further_kind, kind_for, arithmetic_ops, comparison_ops, bitwise_ops, augmented_ops, conversions, op_of_text, spelled_op, op_of_words, operated, takes_name, takes_op, said_plainly, said_for, is_slice, is_relative, is_import, holds_name, only_if, is_name, said_leaf, mark_for, valued, value_of, named, converted};
 ghost use Rattle.py_grammar.specs.Terminal.{lookup};
 ghost use Rattle.py_grammar.specs.Found.{item_words, item_span, items_from, is_part_next, Extends, is_item, word_in};
 ghost use Rattle.py_grammar.specs.declared.words.Terminal.TheVariants as terminals;
 
 use crate::found::Item;
 use crate::strings::{bytes_word, text_word};
+use crate::table::{number_of, plain_of};
 use crate::terminal::terminal_for;
 use crate::words::{Form, Terminal};
 use py_base::{NoMemory, NodeKind, Op, Span, Tree, Word};
@@ -18,7 +19,7 @@ use std::alloc::Global;
 fn is_terminal(token: &Token, word: Terminal) -> bool
     ensures { result ≡ is_word word token.now }
 {
-    terminal_for(token) as u8 == word as u8
+    number_of(plain_of(terminal_for(token))) == number_of(word)
 }
 
 // Whether an item is this terminal.
@@ -46,8 +47,8 @@ fn token_of<'a>(item: Option<Item<'a>>) -> Option<&'a Token>
     }
 }
 
-// The first word that is this terminal.
-fn find_word<'a>(items: &[Item<'a>], word: Terminal) -> Option<&'a Token>
+/// The first word that is this terminal. `None` where none is.
+pub fn find_word<'a>(items: &[Item<'a>], word: Terminal) -> Option<&'a Token>
     ensures { option_map (λ b. b.now) result ≡ find (is_word word) (item_words items.now) }
 {
     token_of(find_item(items, word))
@@ -81,10 +82,23 @@ fn first_of_words<'a>(items: &[Item<'a>]) -> Option<&'a Token>
 pub fn kind_of(form: Form, items: &[Item]) -> NodeKind
     ensures { result ≡ kind_for form (item_words items.now) }
 {
+    match further_kind(form, items) {
+        Some(kind) => kind,
+        None => plain_kind(form),
+    }
+}
+
+// The kind that a form has by a further word.
+fn further_kind(form: Form, items: &[Item]) -> Option<NodeKind>
+    ensures { result ≡ further_kind form (item_words items.now) }
+{
     match form {
-        Form::Yield if does_have(items, Terminal::From) => NodeKind::YieldFrom,
-        Form::StarParameter if !does_have(items, Terminal::Name) => NodeKind::BareStar,
-        _ => plain_kind(form),
+        Form::Yield => only_if(does_have(items, Terminal::From), NodeKind::YieldFrom),
+        Form::StarParameter => only_if(!does_have(items, Terminal::Name), NodeKind::BareStar),
+        Form::DefStarParameter => only_if(!does_have(items, Terminal::Name), NodeKind::BareStar),
+        Form::ImportFrom => only_if(does_have(items, Terminal::Star), NodeKind::ImportAll),
+        Form::Except => only_if(does_have(items, Terminal::Star), NodeKind::ExceptStar),
+        _ => None,
     }
 }
 
@@ -113,6 +127,8 @@ fn plain_kind(form: Form) -> NodeKind
         Form::Call => NodeKind::Call,
         Form::Subscript => NodeKind::Subscript,
         Form::Name => NodeKind::Name,
+        Form::TypeName => NodeKind::Name,
+        Form::Underscore => NodeKind::Name,
         Form::Int => NodeKind::Int,
         Form::Float => NodeKind::Float,
         Form::Imaginary => NodeKind::Imaginary,
@@ -145,6 +161,68 @@ fn plain_kind(form: Form) -> NodeKind
         Form::Yield => NodeKind::Yield,
         Form::Field => NodeKind::Field,
         Form::Format => NodeKind::Format,
+        Form::Statements => NodeKind::Statements,
+        Form::Assign => NodeKind::Assign,
+        Form::AnnotatedAssign => NodeKind::AnnotatedAssign,
+        Form::AugmentedAssign => NodeKind::AugmentedAssign,
+        Form::Pass => NodeKind::Pass,
+        Form::Break => NodeKind::Break,
+        Form::Continue => NodeKind::Continue,
+        Form::Return => NodeKind::Return,
+        Form::Raise => NodeKind::Raise,
+        Form::Global => NodeKind::Global,
+        Form::Nonlocal => NodeKind::Nonlocal,
+        Form::Del => NodeKind::Del,
+        Form::Assert => NodeKind::Assert,
+        Form::Import => NodeKind::Import,
+        Form::ImportFrom => NodeKind::ImportFrom,
+        Form::DottedName => NodeKind::Attribute,
+        Form::RelativeSource => NodeKind::RelativeSource,
+        Form::Alias => NodeKind::Alias,
+        Form::FromAlias => NodeKind::Alias,
+        Form::TypeAlias => NodeKind::TypeAlias,
+        Form::TypeParameters => NodeKind::TypeParameters,
+        Form::TypeParameter => NodeKind::TypeParameter,
+        Form::StarTypeParameter => NodeKind::StarTypeParameter,
+        Form::DoubleStarTypeParameter => NodeKind::DoubleStarTypeParameter,
+        Form::Parameters => NodeKind::Parameters,
+        Form::AnnotatedParameter => NodeKind::AnnotatedParameter,
+        Form::DefStarParameter => NodeKind::StarParameter,
+        Form::DefDoubleStarParameter => NodeKind::DoubleStarParameter,
+        Form::Result => NodeKind::Result,
+        Form::Arguments => NodeKind::Arguments,
+        Form::Suite => NodeKind::Suite,
+        Form::If => NodeKind::If,
+        Form::Elif => NodeKind::Elif,
+        Form::Else => NodeKind::Else,
+        Form::While => NodeKind::While,
+        Form::For => NodeKind::For,
+        Form::Try => NodeKind::Try,
+        Form::Except => NodeKind::Except,
+        Form::Finally => NodeKind::Finally,
+        Form::With => NodeKind::With,
+        Form::BracketedWith => NodeKind::With,
+        Form::WithItem => NodeKind::WithItem,
+        Form::Def => NodeKind::Def,
+        Form::Class => NodeKind::Class,
+        Form::Match => NodeKind::Match,
+        Form::Case => NodeKind::Case,
+        Form::Async => NodeKind::Async,
+        Form::BracketedAsync => NodeKind::Async,
+        Form::Decorator => NodeKind::Decorator,
+        Form::SignedNumber => NodeKind::Unary,
+        Form::ComplexNumber => NodeKind::Binary,
+        Form::PatternRound => NodeKind::Round,
+        Form::PatternSquare => NodeKind::Square,
+        Form::Patterns => NodeKind::Patterns,
+        Form::StarPattern => NodeKind::StarPattern,
+        Form::DoubleStarPattern => NodeKind::DoubleStarPattern,
+        Form::MappingPattern => NodeKind::MappingPattern,
+        Form::PatternItem => NodeKind::PatternItem,
+        Form::ClassPattern => NodeKind::ClassPattern,
+        Form::KeywordPattern => NodeKind::KeywordPattern,
+        Form::OrPattern => NodeKind::OrPattern,
+        Form::AsPattern => NodeKind::AsPattern,
     }
 }
 
@@ -233,6 +311,40 @@ fn bitwise_op(text: &str) -> Option<Op>
     }
 }
 
+fn augmented_op(text: &str) -> Option<Op>
+    ensures { result ≡ lookup augmented_ops text.now }
+{
+    if text == "+=" {
+        Some(Op::Plus)
+    } else if text == "-=" {
+        Some(Op::Minus)
+    } else if text == "*=" {
+        Some(Op::Star)
+    } else if text == "/=" {
+        Some(Op::Slash)
+    } else if text == "//=" {
+        Some(Op::DoubleSlash)
+    } else if text == "%=" {
+        Some(Op::Percent)
+    } else if text == "@=" {
+        Some(Op::At)
+    } else if text == "&=" {
+        Some(Op::BitAnd)
+    } else if text == "|=" {
+        Some(Op::BitOr)
+    } else if text == "^=" {
+        Some(Op::BitXor)
+    } else if text == ">>=" {
+        Some(Op::ShiftRight)
+    } else if text == "<<=" {
+        Some(Op::ShiftLeft)
+    } else if text == "**=" {
+        Some(Op::DoubleStar)
+    } else {
+        None
+    }
+}
+
 fn conversion_op(text: &str) -> Option<Op>
     ensures { result ≡ lookup conversions text.now }
 {
@@ -256,7 +368,10 @@ fn spelled(text: &str) -> Option<Op>
     if let Some(op) = comparison_op(text) {
         return Some(op);
     }
-    bitwise_op(text)
+    if let Some(op) = bitwise_op(text) {
+        return Some(op);
+    }
+    augmented_op(text)
 }
 
 fn spelled_by_first(items: &[Item]) -> Option<Op>
@@ -321,6 +436,7 @@ fn name_word(tree: &mut Tree, items: &[Item]) -> Result<Word, NoMemory>
     requires { IsLinked tree.old }
     ensures older { Extends tree.old tree.new }
     ensures said { IfOk result (λ w. (said tree.new.names w ≡ named (find (is_word terminals.Name) (item_words items.now))) × IsNamed (length tree.new.names) w) }
+    ensures same { OnOk result (tree.new.nodes ≡ tree.old.nodes) }
 {
     match find_word(items, Terminal::Name) {
         None => Ok(Word::Nothing),
@@ -331,16 +447,13 @@ fn name_word(tree: &mut Tree, items: &[Item]) -> Result<Word, NoMemory>
     }
 }
 
-fn is_named_form(form: Form) -> bool
+/// Whether the word of a form is a name.
+pub fn is_named_form(form: Form) -> bool
     ensures { result ≡ takes_name form }
 {
     matches!(
         form,
-        Form::Name
-            | Form::Parameter
-            | Form::StarParameter
-            | Form::DoubleStarParameter
-            | Form::Attribute
+        Form::Name | Form::TypeName | Form::Underscore | Form::Attribute | Form::DottedName
     )
 }
 
@@ -359,11 +472,14 @@ fn is_operator_form(form: Form) -> bool
             | Form::Product
             | Form::Unary
             | Form::Power
+            | Form::AugmentedAssign
+            | Form::SignedNumber
+            | Form::ComplexNumber
     )
 }
 
-// The word of a form that takes no name.
-fn plain_word(alloc: Global, form: Form, items: &[Item]) -> Result<Word, NoMemory>
+/// The word of a form that takes no name. `NoMemory` where a value could not be stored.
+pub fn plain_word(alloc: Global, form: Form, items: &[Item]) -> Result<Word, NoMemory>
     ensures said { IfOk result (λ w. (names : List (List ℕ)) → said names w ≡ said_plainly form (item_words items.now)) }
     ensures named { IfOk result (λ w. (names : ℕ) → IsNamed names w) }
 {
@@ -388,6 +504,7 @@ pub fn word_for(
     requires { IsLinked tree.old }
     ensures older { Extends tree.old tree.new }
     ensures said { IfOk result (λ w. (said tree.new.names w ≡ said_for form (item_words items.now)) × IsNamed (length tree.new.names) w) }
+    ensures same { OnOk result (tree.new.nodes ≡ tree.old.nodes) }
 {
     if is_named_form(form) {
         name_word(tree, items)
@@ -397,15 +514,76 @@ pub fn word_for(
     }
 }
 
+fn is_slice(form: Form) -> bool
+    ensures { result ≡ is_slice form }
+{
+    matches!(form, Form::Slice | Form::SliceFrom)
+}
+
+fn is_relative(form: Form) -> bool
+    ensures { result ≡ is_relative form }
+{
+    matches!(form, Form::RelativeSource)
+}
+
+fn is_import(form: Form) -> bool
+    ensures { result ≡ is_import form }
+{
+    matches!(form, Form::ImportFrom)
+}
+
+// Whether a word of the form is a name on its own.
+fn does_hold_name(form: Form) -> bool
+    ensures { result ≡ holds_name form }
+{
+    matches!(
+        form,
+        Form::StarParameter
+            | Form::DefStarParameter
+            | Form::DefDoubleStarParameter
+            | Form::TypeAlias
+    )
+}
+
+fn only_if(holds: bool, kind: NodeKind) -> Option<NodeKind>
+    ensures { result ≡ only_if holds kind }
+{
+    if holds { Some(kind) } else { None }
+}
+
 /// The kind of leaf that a word of a form leaves, by whether a part stands behind it. `None` where
-/// it leaves none.
+/// it leaves none. A soft keyword counts as a name here.
 pub fn mark_of(form: Form, word: Terminal, before_part: bool) -> Option<NodeKind>
     ensures { result ≡ mark_for form word before_part }
 {
-    match (form, word) {
-        (_, Terminal::Comma) if !before_part => Some(NodeKind::LastComma),
-        (Form::Slice | Form::SliceFrom, Terminal::Colon) => Some(NodeKind::Colon),
+    match word {
+        Terminal::Comma => only_if(!before_part && !is_import(form), NodeKind::LastComma),
+        Terminal::Colon => only_if(is_slice(form), NodeKind::Colon),
+        Terminal::Dot => only_if(is_relative(form), NodeKind::Dot),
+        Terminal::Ellipsis => only_if(is_relative(form), NodeKind::Ellipsis),
+        Terminal::Name => only_if(does_hold_name(form), NodeKind::Name),
         _ => None,
+    }
+}
+
+fn is_name(kind: NodeKind) -> bool
+    ensures { result ≡ is_name kind }
+{
+    matches!(kind, NodeKind::Name)
+}
+
+/// What the word of a leaf says: a name its text. `NoMemory` where the name could not be stored.
+pub fn leaf_word(tree: &mut Tree, kind: NodeKind, token: &Token) -> Result<Word, NoMemory>
+    requires { IsLinked tree.old }
+    ensures older { Extends tree.old tree.new }
+    ensures said { IfOk result (λ w. (said tree.new.names w ≡ said_leaf kind token.now) × IsNamed (length tree.new.names) w) }
+    ensures same { OnOk result (tree.new.nodes ≡ tree.old.nodes) }
+{
+    if is_name(kind) {
+        let id = tree.intern(token.text.as_str())?;
+        Ok(Word::Name(id))
+    } else {
+        Ok(Word::Nothing)
     }
 }
 

@@ -5,6 +5,14 @@
 pub enum Terminal {
     /// A name.
     Name,
+    /// The name `match`.
+    MatchWord,
+    /// The name `case`.
+    CaseWord,
+    /// The name `type`.
+    TypeWord,
+    /// The name `_`.
+    Underscore,
     /// An integer below 2^127.
     Int,
     /// A number with a point or an exponent.
@@ -31,32 +39,72 @@ pub enum Terminal {
     TrueWord,
     /// `and`.
     And,
+    /// `as`.
+    As,
+    /// `assert`.
+    Assert,
     /// `async`.
     Async,
     /// `await`.
     Await,
+    /// `break`.
+    Break,
+    /// `class`.
+    Class,
+    /// `continue`.
+    Continue,
+    /// `def`.
+    Def,
+    /// `del`.
+    Del,
+    /// `elif`.
+    Elif,
     /// `else`.
     Else,
+    /// `except`.
+    Except,
+    /// `finally`.
+    Finally,
     /// `for`.
     For,
     /// `from`.
     From,
+    /// `global`.
+    Global,
     /// `if`.
     If,
+    /// `import`.
+    Import,
     /// `in`.
     In,
     /// `is`.
     Is,
     /// `lambda`.
     Lambda,
+    /// `nonlocal`.
+    Nonlocal,
     /// `not`.
     Not,
     /// `or`.
     Or,
+    /// `pass`.
+    Pass,
+    /// `raise`.
+    Raise,
+    /// `return`.
+    Return,
+    /// `try`.
+    Try,
+    /// `while`.
+    While,
+    /// `with`.
+    With,
     /// `yield`.
     Yield,
-    /// `+` or `-`.
-    PlusMinus,
+    /// `+`.
+    Plus,
+    /// `-`.
+    Minus,
     /// `~`.
     Tilde,
     /// `*`.
@@ -65,8 +113,10 @@ pub enum Terminal {
     DoubleStar,
     /// `/`.
     Slash,
-    /// `//`, `%` or `@`.
+    /// `//` or `%`.
     Times,
+    /// `@`.
+    At,
     /// `<<` or `>>`.
     Shift,
     /// `&`.
@@ -95,20 +145,26 @@ pub enum Terminal {
     Comma,
     /// `:`.
     Colon,
+    /// `;`.
+    Semicolon,
     /// `.`.
     Dot,
     /// `...`.
     Ellipsis,
+    /// `->`.
+    Arrow,
     /// `=`.
     Assign,
-    /// A token that stands in no expression.
+    /// An operator with `=`, as `+=`.
+    AugmentedAssign,
+    /// A token that stands in no line.
     Other,
     /// What stands behind the last token.
     End,
 }
 
 /// A form of the grammar: what a tree can be. Several forms may have one kind of node, where they
-/// differ by the places in which they stand (Python 3.12 language reference, section 6).
+/// differ by the places in which they stand (Python 3.12 language reference, sections 6 to 8).
 #[derive(Clone, Copy, Debug, PartialEq, Eq)]
 pub enum Form {
     /// Entries by commas.
@@ -151,8 +207,12 @@ pub enum Form {
     Call,
     /// A part and an index.
     Subscript,
-    /// A name.
+    /// A name other than the two below.
     Name,
+    /// The name `type`.
+    TypeName,
+    /// The name `_`, which captures nothing in a pattern.
+    Underscore,
     /// An integer.
     Int,
     /// A number with a point or an exponent.
@@ -201,15 +261,15 @@ pub enum Form {
     Slice,
     /// A slice that begins with its lower bound.
     SliceFrom,
-    /// A further operator of a chain and its right side.
+    /// An operator within a chain of comparisons, behind the first.
     Link,
-    /// A name among parameters, with a default or without.
+    /// `name = default` among parameters.
     Parameter,
     /// `/` among parameters.
     SlashParameter,
-    /// `*` among parameters, with a name or without.
+    /// `*` among parameters of a lambda, with a name or without.
     StarParameter,
-    /// `**` and a name among parameters.
+    /// `**` and a name among parameters of a lambda.
     DoubleStarParameter,
     /// `yield` or `yield from`.
     Yield,
@@ -217,6 +277,130 @@ pub enum Form {
     Field,
     /// The format of a field.
     Format,
+    /// Simple statements by `;`.
+    Statements,
+    /// Targets, each before a `=`, and a value.
+    Assign,
+    /// `target: annotation`, with a value or without.
+    AnnotatedAssign,
+    /// A target, an operator with `=`, and a value.
+    AugmentedAssign,
+    /// `pass`.
+    Pass,
+    /// `break`.
+    Break,
+    /// `continue`.
+    Continue,
+    /// `return`, with a value or without.
+    Return,
+    /// `raise`.
+    Raise,
+    /// `global` and names.
+    Global,
+    /// `nonlocal` and names.
+    Nonlocal,
+    /// `del` and targets.
+    Del,
+    /// `assert`.
+    Assert,
+    /// `import` and what is imported.
+    Import,
+    /// `from source import` and names or `*`.
+    ImportFrom,
+    /// Names by dots, where no expression stands.
+    DottedName,
+    /// Dots, and a name behind them or none.
+    RelativeSource,
+    /// `name as other` behind `import`.
+    Alias,
+    /// `name as other` behind `from .. import`.
+    FromAlias,
+    /// The statement `type`.
+    TypeAlias,
+    /// Type parameters in square brackets.
+    TypeParameters,
+    /// A type parameter with its bound.
+    TypeParameter,
+    /// `*` and a name among type parameters.
+    StarTypeParameter,
+    /// `**` and a name among type parameters.
+    DoubleStarTypeParameter,
+    /// Parameters of a def in round brackets.
+    Parameters,
+    /// `name: annotation` among parameters of a def, with a default or without.
+    AnnotatedParameter,
+    /// `*` among parameters of a def, with a name or without.
+    DefStarParameter,
+    /// `**` and a name among parameters of a def.
+    DefDoubleStarParameter,
+    /// `->` and the annotation of a result.
+    Result,
+    /// Arguments of a class in round brackets.
+    Arguments,
+    /// `:` and the simple statements behind it.
+    Suite,
+    /// The header `if`.
+    If,
+    /// The header `elif`.
+    Elif,
+    /// The header `else`.
+    Else,
+    /// The header `while`.
+    While,
+    /// The header `for`.
+    For,
+    /// The header `try`.
+    Try,
+    /// The header `except`, or `except*`.
+    Except,
+    /// The header `finally`.
+    Finally,
+    /// The header `with`, its items outside brackets.
+    With,
+    /// The header `with`, its items in round brackets.
+    BracketedWith,
+    /// `item as target`.
+    WithItem,
+    /// The header `def`.
+    Def,
+    /// The header `class`.
+    Class,
+    /// The header `match`.
+    Match,
+    /// The header `case`.
+    Case,
+    /// `async` before a header.
+    Async,
+    /// `async` before a `with` that has its items in round brackets.
+    BracketedAsync,
+    /// `@` and an expression.
+    Decorator,
+    /// `-` and a number in a pattern.
+    SignedNumber,
+    /// A real and an imaginary number in a pattern.
+    ComplexNumber,
+    /// Round brackets in a pattern.
+    PatternRound,
+    /// Square brackets in a pattern.
+    PatternSquare,
+    /// Patterns by commas, without brackets.
+    Patterns,
+    /// `*` and a name in a sequence pattern.
+    StarPattern,
+    /// `**` and a name in a mapping pattern.
+    DoubleStarPattern,
+    /// A mapping pattern.
+    MappingPattern,
+    /// `key: pattern` in a mapping pattern.
+    PatternItem,
+    /// A class and patterns in round brackets.
+    ClassPattern,
+    /// `name = pattern` in a class pattern.
+    KeywordPattern,
+    /// Patterns by `|`.
+    OrPattern,
+    /// `pattern as name`.
+    AsPattern,
 }
 
 /// What the place of a part asks of it.
@@ -292,9 +476,9 @@ pub enum Need {
     Clause,
     /// A further clause of a comprehension.
     FurtherClause,
-    /// A parameter.
+    /// A parameter of a lambda.
     Parameter,
-    /// A further operator of a chain and its right side.
+    /// An operator within a chain of comparisons.
     Link,
     /// A yield.
     YieldValue,
@@ -302,6 +486,78 @@ pub enum Need {
     Field,
     /// The format of a field.
     Format,
+    /// A line, where no keyword reading of it counts first.
+    Line,
+    /// A line with a soft keyword or with bracketed items.
+    KeywordLine,
+    /// A simple statement.
+    SimpleStatement,
+    /// A target of an assignment, or what is assigned.
+    AssignedPart,
+    /// What is assigned.
+    AssignedValue,
+    /// A name, an attribute or a subscript.
+    Reference,
+    /// Names by dots.
+    DottedName,
+    /// Where names are imported from.
+    Source,
+    /// What is imported.
+    ImportItem,
+    /// A name that is imported from a source.
+    FromItem,
+    /// The word `type` of its statement.
+    TypeKeyword,
+    /// Type parameters in brackets.
+    TypeParameters,
+    /// A type parameter.
+    TypeParameter,
+    /// What stands from the colon of a header on.
+    Suite,
+    /// An item of a `with`.
+    WithEntry,
+    /// Parameters in brackets.
+    Parameters,
+    /// A parameter of a def.
+    DefParameter,
+    /// The annotation of a result.
+    Result,
+    /// Arguments of a class in brackets.
+    Arguments,
+    /// A header behind `async`.
+    AsyncHeader,
+    /// A `with` that has its items in round brackets.
+    BracketedWith,
+    /// The subject of a `match`.
+    Subject,
+    /// A number without a sign.
+    Number,
+    /// What stands before an imaginary number.
+    RealNumber,
+    /// An imaginary number.
+    ImaginaryNumber,
+    /// A pattern without `|` and `as`.
+    ClosedPattern,
+    /// A pattern without `as`.
+    Alternatives,
+    /// A pattern.
+    Pattern,
+    /// A pattern in a sequence.
+    PatternEntry,
+    /// `*` and a name in a sequence pattern.
+    StarPattern,
+    /// The whole pattern of a case.
+    CasePattern,
+    /// A name that a pattern captures.
+    CapturedName,
+    /// The key of a mapping pattern.
+    PatternKey,
+    /// The rest of a mapping pattern.
+    DoubleStarPattern,
+    /// An entry of a mapping pattern.
+    PatternItem,
+    /// An entry of a class pattern.
+    ClassEntry,
 }
 
 /// How far a form has come: what may stand there next. `Last..` stands before the last part of a
@@ -323,6 +579,8 @@ pub enum State {
     LastFactor,
     LastPrimary,
     LastStarOperand,
+    LastName,
+    LastIdentifier,
     EntryNext,
     EntryMore,
     TargetNext,
@@ -333,9 +591,9 @@ pub enum State {
     ComparedNot,
     ComparedIs,
     ComparedMore,
+    LinkOperand,
     LinkNot,
     LinkIs,
-    AttributeName,
     CallFirst,
     CallAfterFirst,
     CallNext,
@@ -346,9 +604,7 @@ pub enum State {
     IndexNext,
     LambdaNext,
     LambdaMore,
-    ParameterDefault,
     StarParameterName,
-    DoubleStarName,
     RoundFirst,
     RoundClose,
     RoundAfterFirst,
@@ -380,6 +636,97 @@ pub enum State {
     FBody,
     StringsMore,
     BytesMore,
+    StatementNext,
+    StatementMore,
+    AssignNext,
+    AssignMore,
+    AnnotationFirst,
+    AnnotationMore,
+    LastAssigned,
+    ReturnFirst,
+    RaiseFirst,
+    RaiseMore,
+    NameNext,
+    NameMore,
+    LastTargets,
+    AssertFirst,
+    AssertMore,
+    ImportNext,
+    ImportMore,
+    FromSource,
+    FromImport,
+    FromFirst,
+    FromNext,
+    FromMore,
+    FromBracketed,
+    FromBracketedMore,
+    FromBracketedNext,
+    DotsMore,
+    AliasParameters,
+    AliasAssign,
+    TypeParametersFirst,
+    TypeParametersNext,
+    TypeParametersMore,
+    SuiteFirst,
+    SuiteNext,
+    SuiteMore,
+    LastSuite,
+    HeaderTest,
+    LoopTargets,
+    LoopIn,
+    LoopOver,
+    ExceptFirst,
+    ExceptClass,
+    ExceptMore,
+    ExceptName,
+    WithNext,
+    WithMore,
+    BracketedWithFirst,
+    BracketedItem,
+    BracketedItemNext,
+    BracketedItemMore,
+    LastTarget,
+    DefName,
+    DefParameters,
+    DefBracket,
+    DefResult,
+    ParametersNext,
+    ParametersMore,
+    ParameterAnnotation,
+    ParameterDefault,
+    DefStarName,
+    DefDoubleStarName,
+    StarAnnotation,
+    ClassName,
+    ClassParameters,
+    ClassBracket,
+    AsyncFirst,
+    BracketedAsyncFirst,
+    LastNamed,
+    MatchSubject,
+    MatchColon,
+    CaseFirst,
+    CaseGuard,
+    LastNumber,
+    LastImaginary,
+    LastPattern,
+    LastCapturedName,
+    PatternRoundFirst,
+    PatternRoundStar,
+    PatternRoundNext,
+    PatternRoundMore,
+    PatternSquareNext,
+    PatternSquareMore,
+    PatternsNext,
+    PatternsMore,
+    MappingNext,
+    MappingMore,
+    MappingRest,
+    MappingClose,
+    ClassPatternNext,
+    ClassPatternMore,
+    OrNext,
+    OrMore,
 }
 
 /// A form that begins with a token of its own, and the state behind it.

@@ -16,7 +16,7 @@ fn shown(alloc: Global, list: &List<Diag>) -> Result<String, AllocError> {
     Ok(out)
 }
 
-const TEXTS: [(&str, &str); 48] = [
+const TEXTS: [(&str, &str); 57] = [
     ("", ""),
     (
         "x = 1\ny = x\nreveal_type(y)\n",
@@ -174,6 +174,33 @@ const TEXTS: [(&str, &str); 48] = [
         "\u{feff}x = 1 # one\nreveal_type(x)",
         "1 12 1 13 reveal-type Type is \"Literal[1]\"\n",
     ),
+    // what a form needs of its names, and of its end
+    (
+        "reveal_type(reveal_type)",
+        "0 0 0 24 syntax Statement is not valid\n",
+    ),
+    (
+        "reveal_type(None)",
+        "0 0 0 17 syntax Statement is not valid\n",
+    ),
+    ("x = int", "0 4 0 7 undefined-name \"int\" is not defined\n"),
+    ("y = = 2 # c", "0 0 0 11 syntax Statement is not valid\n"),
+    ("x = b'a'", "0 0 0 8 syntax Statement is not valid\n"),
+    ("x = '''a'''", "0 0 0 11 syntax Statement is not valid\n"),
+    // a faulty line is reported alone, and by its token fault first
+    (
+        "reveal_type(z)\nx = $",
+        "1 0 1 5 syntax Invalid character in source\n",
+    ),
+    (
+        "y = 1 + 170141183460469231731687303715884105728",
+        "0 0 0 47 limit Integer is wider than 128 bits\n",
+    ),
+    // a form feed goes back to column 0
+    (
+        " \u{c}x = 1\nreveal_type(x)",
+        "1 12 1 13 reveal-type Type is \"Literal[1]\"\n",
+    ),
 ];
 
 #[test]
@@ -218,6 +245,19 @@ fn long_texts(rt: HostRuntime) -> Result<(), Fail> {
     assert!(rt; found.is_empty());
     let too_long = repeated(rt.alloc(), " ", 524_289)?;
     let found = list_text(rt.alloc(), too_long.as_str())?;
+    let found = shown(rt.alloc(), &found)?;
+    assert_eq!(rt;
+        found.as_str(),
+        "0 0 0 0 limit Text is longer than 524288 bytes\n"
+    );
+    Ok(())
+}
+
+// The limit counts bytes: these are 262,145 characters.
+#[test]
+fn wide_texts(rt: HostRuntime) -> Result<(), Fail> {
+    let wide = repeated(rt.alloc(), "é", 262_145)?;
+    let found = list_text(rt.alloc(), wide.as_str())?;
     let found = shown(rt.alloc(), &found)?;
     assert_eq!(rt;
         found.as_str(),

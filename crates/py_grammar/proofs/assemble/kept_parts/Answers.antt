@@ -3,10 +3,11 @@ use Rattle.std.proofs.lemmas.List.{take_rest}
 use Rattle.py_grammar.specs.declared.found.Item.{Item}
 use Rattle.py_grammar.specs.Found.{AreKnown}
 use Rattle.py_grammar.proofs.KnownLemmas.{Extends-refl, Extends-trans, AreKnown-later, known-at, kept-next, drop-item}
+use Rattle.py_grammar.proofs.KeepsLemmas.{Keeps-same, kept-next-keeps}
 use Rattle.py_grammar.proofs.assemble.kept_parts.Goals as goal
 
 pub items-init : goal.items-init
-items-init c = (Extends-refl _ c.requires.linked, rw c.new-parts.ensures tt, rw c.new-parts.ensures refl)
+items-init c = (Extends-refl _ c.requires.linked, rw c.new-parts.ensures tt, rw c.new-parts.ensures refl, rw c.new-parts.ensures (Keeps-same _ _ _ refl))
 
 pub keep-requires-clause-known : goal.keep-requires-clause-known
 keep-requires-clause-known c =
@@ -24,4 +25,5 @@ items-preserved c =
       Extends-trans _ _ _ c.items.invariant.0 c.keep.ensures.older,
       c.in_ok-keep.ensures.kept.0,
       kept-next c.args.tree.now c.items.tree c.keep.new.tree c.args.form c.args.items.now c.items.at c.index-items-at.result (drop (c.items.at + 1) c.args.items.now) c.items.parts c.keep.new.parts _ c.requires.linked c.items.invariant.0 item first c.items.invariant.2 (rw (take_rest c.args.items.now (c.items.at + 1)) at c.in_ok-keep.ensures.kept.1),
+      kept-next-keeps c.args.tree.now c.items.tree c.keep.new.tree c.args.items.now c.items.at c.index-items-at.result (drop (c.items.at + 1) c.args.items.now) c.items.parts c.keep.new.parts c.items.invariant.0 c.requires.known first c.items.invariant.3 c.in_ok-keep.ensures.keeps,
     )

@@ -1,6 +1,7 @@
-use Rattle.std.proofs.Common.{◌≡◌, suc, ◌-◌, arith, sym}
+use Rattle.std.proofs.Common.{◌≡◌, suc, ◌-◌, arith, sym, refl}
 use Rattle.py_grammar.proofs.KnownLemmas.{Extends-refl, Extends-trans}
 use Rattle.py_grammar.proofs.Partway.{IsPartway-start, IsPartway-word, IsPartway-part, IsPartway-stop, IsPartway-fail, IsPartway-short, IsPartway-none, IsClimbing-start, IsClimbing-met, IsClimbing-unmet, IsClimbing-none, IsClimbing-short, IsClimbing-node, begun, begun-none, begun-not, begun-short, read-none, read-not, shorter_parts, shorter_tree}
+use Rattle.py_grammar.proofs.KeepsLemmas.{Keeps-same, keeps-word, keeps-part, begun-keeps, joined-keeps}
 use Rattle.py_grammar.proofs.reader.+reader.Goals as goal
 
 pub begin_from-returns-in_default-clause-read : goal.begin_from-returns-in_default-clause-read
@@ -46,19 +47,22 @@ pub begin_from-returns-clause-older : goal.begin_from-returns-clause-older
 begin_from-returns-clause-older t c = Extends-trans _ _ _ c.parts_from.ensures.older c.assemble.ensures.older
 
 pub parts_from-parts-init : goal.parts_from-parts-init
-parts_from-parts-init t c = IsPartway-start _ _ _ _ _ c.requires.linked c.requires.known
+parts_from-parts-init t c = (IsPartway-start _ _ _ _ _ c.requires.linked c.requires.known, Keeps-same _ _ _ refl)
 
 pub parts_from-parts-preserved-in-Shift : goal.parts_from-parts-preserved-in-Shift
 parts_from-parts-preserved-in-Shift t c =
-    rw c.in_ok-push-in-Shift.ensures.ok (IsPartway-word _ _ _ _ _ _ _ _ c.in-Some.word _ _ c.parts.invariant (sym c.in-Shift.ensures) c.in-Some.ensures.cases.0)
+    rw c.in_ok-push-in-Shift.ensures.ok (
+      IsPartway-word _ _ _ _ _ _ _ _ c.in-Some.word _ _ c.parts.invariant.0 (sym c.in-Shift.ensures) c.in-Some.ensures.cases.0,
+      keeps-word _ _ _ c.parts.items c.in-Some.word c.parts.invariant.1,
+    )
 
 pub parts_from-returns-in_default-clause-read : goal.parts_from-returns-in_default-clause-read
 parts_from-returns-in_default-clause-read t c =
-    IsPartway-short _ _ _ _ _ _ _ _ _ c.parts.invariant (sym c.in-Shift.ensures) c.in_default.ensures.cases
+    IsPartway-short _ _ _ _ _ _ _ _ _ c.parts.invariant.0 (sym c.in-Shift.ensures) c.in_default.ensures.cases
 
 pub parts_from-returns-in_default-2-clause-read : goal.parts_from-returns-in_default-2-clause-read
 parts_from-returns-in_default-2-clause-read t c =
-    IsPartway-none _ _ _ _ _ _ _ _ _ c.parts.invariant (sym c.in-Descend.ensures) (rw c.in_default-2.is at c.in_ok-found-in-Descend.ensures.read)
+    IsPartway-none _ _ _ _ _ _ _ _ _ c.parts.invariant.0 (sym c.in-Descend.ensures) (rw c.in_default-2.is at c.in_ok-found-in-Descend.ensures.read)
 
 pub parts_from-parts-smaller : goal.parts_from-parts-smaller
 parts_from-parts-smaller t c =
@@ -68,25 +72,29 @@ parts_from-parts-smaller t c =
 pub parts_from-parts-preserved : goal.parts_from-parts-preserved
 parts_from-parts-preserved t c =
     let f = rw c.in-Some-2.is at c.in_ok-found-in-Descend.ensures.read in
-    rw c.in_ok-push-in-Descend.ensures.ok (IsPartway-part _ _ _ _ _ _ _ _ _ _ c.in-Some-2.found _ c.parts.invariant (sym c.in-Descend.ensures) c.in_ok-found-in-Descend.ensures.older f)
+    let keeps = rw c.in-Some-2.is at c.in_ok-found-in-Descend.ensures.keeps in
+    rw c.in_ok-push-in-Descend.ensures.ok (
+      IsPartway-part _ _ _ _ _ _ _ _ _ _ c.in-Some-2.found _ c.parts.invariant.0 (sym c.in-Descend.ensures) c.in_ok-found-in-Descend.ensures.older f,
+      keeps-part _ _ _ _ c.parts.items c.in-Some-2.found c.parts.invariant.0.older c.parts.invariant.0.known c.parts.invariant.1 keeps.0,
+    )
 
 pub parts_from-returns-in-Stop-clause-read : goal.parts_from-returns-in-Stop-clause-read
-parts_from-returns-in-Stop-clause-read t c = IsPartway-stop _ _ _ _ _ _ _ _ c.parts.invariant (sym c.in-Stop.ensures)
+parts_from-returns-in-Stop-clause-read t c = IsPartway-stop _ _ _ _ _ _ _ _ c.parts.invariant.0 (sym c.in-Stop.ensures)
 
 pub parts_from-returns-in-Fail-clause-read : goal.parts_from-returns-in-Fail-clause-read
-parts_from-returns-in-Fail-clause-read t c = IsPartway-fail _ _ _ _ _ _ _ _ c.parts.invariant (sym c.in-Fail.ensures)
+parts_from-returns-in-Fail-clause-read t c = IsPartway-fail _ _ _ _ _ _ _ _ c.parts.invariant.0 (sym c.in-Fail.ensures)
 
 pub parts_from-tree_from-requires : goal.parts_from-tree_from-requires
-parts_from-tree_from-requires t c = (omega arith, c.parts.invariant.older.linked)
+parts_from-tree_from-requires t c = (omega arith, c.parts.invariant.0.older.linked)
 
 pub parts_from-returns-in_err-found-in-Descend-clause-older : goal.parts_from-returns-in_err-found-in-Descend-clause-older
-parts_from-returns-in_err-found-in-Descend-clause-older t c = Extends-trans _ _ _ c.parts.invariant.older c.tree_from.ensures.older
+parts_from-returns-in_err-found-in-Descend-clause-older t c = Extends-trans _ _ _ c.parts.invariant.0.older c.tree_from.ensures.older
 
 pub parts_from-returns-in_default-2-clause-older : goal.parts_from-returns-in_default-2-clause-older
-parts_from-returns-in_default-2-clause-older t c = Extends-trans _ _ _ c.parts.invariant.older c.tree_from.ensures.older
+parts_from-returns-in_default-2-clause-older t c = Extends-trans _ _ _ c.parts.invariant.0.older c.tree_from.ensures.older
 
 pub parts_from-returns-in_err-push-in-Descend-clause-older : goal.parts_from-returns-in_err-push-in-Descend-clause-older
-parts_from-returns-in_err-push-in-Descend-clause-older t c = Extends-trans _ _ _ c.parts.invariant.older c.tree_from.ensures.older
+parts_from-returns-in_err-push-in-Descend-clause-older t c = Extends-trans _ _ _ c.parts.invariant.0.older c.tree_from.ensures.older
 
 pub tree_from-returns-then-depth-eq0-clause-read : goal.tree_from-returns-then-depth-eq0-clause-read
 tree_from-returns-then-depth-eq0-clause-read t c = rw c.if-depth-eq0.true (read-none _ _)
@@ -102,15 +110,19 @@ tree_from-returns-in_default-clause-read t c =
 pub tree_from-joints-init : goal.tree_from-joints-init
 tree_from-joints-init t c =
     let same : c.args.depth ≡ suc (c.args.depth - 1) = omega arith in
-    IsClimbing-start c.args.depth (c.args.depth - 1) c.args.need c.args.tree.now c.begin_from.new.tree c.in-Some.begun c.args.tokens.now _ same c.begin_from.ensures.older (rw c.in-Some.is at c.in_ok-begun.ensures.read)
+    let keeps = rw c.in-Some.is at c.in_ok-begun.ensures.keeps in (
+      IsClimbing-start c.args.depth (c.args.depth - 1) c.args.need c.args.tree.now c.begin_from.new.tree c.in-Some.begun c.args.tokens.now _ same c.begin_from.ensures.older (rw c.in-Some.is at c.in_ok-begun.ensures.read),
+      keeps.0,
+      keeps.1,
+    )
 
 pub tree_from-returns-in_default-split_first-clause-read : goal.tree_from-returns-in_default-split_first-clause-read
 tree_from-returns-in_default-split_first-clause-read t c =
-    IsClimbing-short _ _ _ _ _ _ _ _ c.joints.invariant (sym c.in-Some-joint_for.ensures) c.in_default-split_first.ensures.cases
+    IsClimbing-short _ _ _ _ _ _ _ _ c.joints.invariant.0 (sym c.in-Some-joint_for.ensures) c.in_default-split_first.ensures.cases
 
 pub tree_from-returns-in_default-2-clause-read : goal.tree_from-returns-in_default-2-clause-read
 tree_from-returns-in_default-2-clause-read t c =
-    IsClimbing-none _ _ _ _ _ _ _ c.in-Some-split_first.word.now _ _ c.joints.invariant (sym c.in-Some-joint_for.ensures) c.in-Some-split_first.ensures.cases.0 (rw c.in_default-2.is at c.in_ok-items.ensures.read)
+    IsClimbing-none _ _ _ _ _ _ _ c.in-Some-split_first.word.now _ _ c.joints.invariant.0 (sym c.in-Some-joint_for.ensures) c.in-Some-split_first.ensures.cases.0 (rw c.in_default-2.is at c.in_ok-items.ensures.read)
 
 pub tree_from-joints-smaller : goal.tree_from-joints-smaller
 tree_from-joints-smaller t c =
@@ -122,16 +134,22 @@ pub tree_from-joints-preserved : goal.tree_from-joints-preserved
 tree_from-joints-preserved t c =
     let f = rw c.in-Some-2.is at c.in_ok-items.ensures.read in
     let node = rw c.as_slice.ensures at c.in_ok-next.ensures.node in
-    IsClimbing-node _ _ _ _ c.joints.tree c.parts_from.new.tree c.assemble.new.tree c.joints.found c.in_ok-next.next _ c.in-Some-split_first.word _ _ c.in_ok-first.first c.in-Some-2.items _ c.joints.invariant (sym c.in-Some-joint_for.ensures) c.in-Some-split_first.ensures.cases.0 c.in_ok-first.ensures c.parts_from.ensures.older c.assemble.ensures.older f node.0 node.1 node.2
+    let parts = rw c.in-Some-2.is at c.in_ok-items.ensures.keeps in
+    let keeps = rw c.as_slice.ensures at c.in_ok-next.ensures.keeps in
+    let all = joined-keeps _ _ _ _ c.in_ok-first.first c.in-Some-2.items c.in-Some-split_first.word c.joints.found c.in_ok-next.next c.in_ok-first.ensures c.joints.invariant.0.older c.parts_from.ensures.older c.joints.invariant.1 parts keeps.0 keeps.1 in (
+      IsClimbing-node _ _ _ _ c.joints.tree c.parts_from.new.tree c.assemble.new.tree c.joints.found c.in_ok-next.next _ c.in-Some-split_first.word _ _ c.in_ok-first.first c.in-Some-2.items _ c.joints.invariant.0 (sym c.in-Some-joint_for.ensures) c.in-Some-split_first.ensures.cases.0 c.in_ok-first.ensures c.parts_from.ensures.older c.assemble.ensures.older f node.0 node.1 node.2,
+      all.0,
+      all.1,
+    )
 
 pub tree_from-returns-then-does_meet-clause-read : goal.tree_from-returns-then-does_meet-clause-read
-tree_from-returns-then-does_meet-clause-read t c = IsClimbing-met _ _ _ _ _ _ _ c.joints.invariant (sym c.in_default-joint_for.ensures) (sym c.if-does_meet.ensures)
+tree_from-returns-then-does_meet-clause-read t c = IsClimbing-met _ _ _ _ _ _ _ c.joints.invariant.0 (sym c.in_default-joint_for.ensures) (sym c.if-does_meet.ensures)
 
 pub tree_from-returns-else-does_meet-clause-read : goal.tree_from-returns-else-does_meet-clause-read
-tree_from-returns-else-does_meet-clause-read t c = IsClimbing-unmet _ _ _ _ _ _ _ c.joints.invariant (sym c.in_default-joint_for.ensures) (sym c.if-does_meet.ensures)
+tree_from-returns-else-does_meet-clause-read t c = IsClimbing-unmet _ _ _ _ _ _ _ c.joints.invariant.0 (sym c.in_default-joint_for.ensures) (sym c.if-does_meet.ensures)
 
 pub tree_from-parts_from-requires : goal.tree_from-parts_from-requires
-tree_from-parts_from-requires t c = (omega arith, (c.joints.invariant.older.linked, rw c.in_ok-first.ensures (c.joints.invariant.known, tt)))
+tree_from-parts_from-requires t c = (omega arith, (c.joints.invariant.0.older.linked, rw c.in_ok-first.ensures (c.joints.invariant.0.known, tt)))
 
 pub tree_from-assemble-requires-clause-linked : goal.tree_from-assemble-requires-clause-linked
 tree_from-assemble-requires-clause-linked t c = c.parts_from.ensures.older.linked
@@ -142,10 +160,22 @@ tree_from-assemble-requires-clause-known t c =
     rw c.as_slice.ensures f.known
 
 pub tree_from-returns-in_err-items-clause-older : goal.tree_from-returns-in_err-items-clause-older
-tree_from-returns-in_err-items-clause-older t c = Extends-trans _ _ _ c.joints.invariant.older c.parts_from.ensures.older
+tree_from-returns-in_err-items-clause-older t c = Extends-trans _ _ _ c.joints.invariant.0.older c.parts_from.ensures.older
 
 pub tree_from-returns-in_default-2-clause-older : goal.tree_from-returns-in_default-2-clause-older
-tree_from-returns-in_default-2-clause-older t c = Extends-trans _ _ _ c.joints.invariant.older c.parts_from.ensures.older
+tree_from-returns-in_default-2-clause-older t c = Extends-trans _ _ _ c.joints.invariant.0.older c.parts_from.ensures.older
 
 pub tree_from-returns-in_err-next-clause-older : goal.tree_from-returns-in_err-next-clause-older
-tree_from-returns-in_err-next-clause-older t c = Extends-trans _ _ _ (Extends-trans _ _ _ c.joints.invariant.older c.parts_from.ensures.older) c.assemble.ensures.older
+tree_from-returns-in_err-next-clause-older t c = Extends-trans _ _ _ (Extends-trans _ _ _ c.joints.invariant.0.older c.parts_from.ensures.older) c.assemble.ensures.older
+
+pub begin_from-returns-clause-keeps : goal.begin_from-returns-clause-keeps
+begin_from-returns-clause-keeps t c =
+    let parts = rw c.in-Some-2.is at c.in_ok-items.ensures.keeps in
+    let keeps = rw c.as_slice.ensures at c.in_ok-found.ensures.keeps in
+    begun-keeps _ _ _ c.in_ok-first.first c.in-Some-2.items c.in-Some.word c.in_ok-found.found c.in_ok-first.ensures c.parts_from.ensures.older parts keeps.0 keeps.1
+
+pub parts_from-returns-in-Stop-clause-keeps : goal.parts_from-returns-in-Stop-clause-keeps
+parts_from-returns-in-Stop-clause-keeps t c = c.parts.invariant.1
+
+pub tree_from-returns-then-does_meet-clause-keeps : goal.tree_from-returns-then-does_meet-clause-keeps
+tree_from-returns-then-does_meet-clause-keeps t c = (c.joints.invariant.1, c.joints.invariant.2)

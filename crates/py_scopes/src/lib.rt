@@ -1,0 +1,31 @@
+//! Who owns a name: for each name of a module the scope whose name it is, and for each symbol its
+//! declaration and its bindings, and for each class its members.
+//!
+//! In one sentence: `scopes` gives the table of a module, in which the owner of a name is found by a
+//! search outward from it over the scopes around it, and the other calls read that table.
+//!
+//! The contract cites `IsTable` of `specs/Table.antt`. It rests on the way from a node outward
+//! (`specs/Way.antt`), on what the forms do with names (`specs/Kinds.antt`), on the scopes around a
+//! place (`specs/Scopes.antt`), on the occurrences of names (`specs/Occurrences.antt`), on the search
+//! (`specs/Owner.antt`) and on the members of classes (`specs/Members.antt`).
+//!
+//! Below this crate stands `py_base` alone.
+#![tactic(auto)]
+
+mod around;
+mod build;
+mod kinds;
+mod members;
+mod occurrence;
+mod owner;
+mod scope;
+mod search;
+mod table;
+mod way;
+
+pub use build::scopes;
+pub use owner::Owner;
+pub use table::Scopes;
+
+#[cfg(test)]
+mod tests;

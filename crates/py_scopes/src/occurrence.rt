@@ -1,0 +1,494 @@
+//! The occurrences of names in a module.
+ghost use Rattle.std.specs.Prelude.{◌≡◌, ◌<◌, ◌++◌, IfOk, OnOk, codes, bytes_eq, length, map, slice_get};
+ghost use Rattle.std.specs.List.{list_any};
+ghost use Rattle.std.specs.Option.{option_to_list};
+ghost use Rattle.py_scopes.specs.Kinds.{is_case, is_import, is_named, makes_member};
+ghost use Rattle.py_scopes.specs.Occurrences.{of_kind, if_import, binder, only_spells, in_pattern_string, counts, is_group, target_way, node_around, target_binder, decorated, is_first_part, is_first_parameter, text_of, word_name, name_of, object_of, read_by, static_at, static_or, read_role, role_of, some_binder, valued_by, annotation_of, annotation_by, scopes_for, is_builtin, occurrence_on, leaf_name, occurrence_at, occurrences, parts_of};
+
+use crate::around::{kind_around, scopes_along};
+use crate::kinds::{
+    does_bind, does_give_value, does_hand_on, does_make_member, does_spell, is_annotated,
+    is_dotted, is_long_parameter,
+};
+use crate::scope::{Scope, from_taker};
+use crate::way::{Step, way_out};
+use py_base::language_names::BUILTIN_NAMES;
+use py_base::{List, NameId, NoMemory, NodeId, NodeKind, Tree, Word};
+use std::alloc::Global;
+
+/// What a name is there for.
+#[derive(Clone, Copy, Debug)]
+pub enum Role {
+    Read,
+    /// `staticmethod` as a decorator of this statement.
+    Static(NodeId),
+    /// The `p` of this target `p.m`, and its `m`.
+    Object(NodeId, NameId),
+    /// It is bound here, by `del` and by an annotation without a value too.
+    Binding,
+    /// It is bound as the first parameter of a def, which has no star.
+    FirstParameter,
+    /// It is declared `global`.
+    Global,
+    /// It is declared `nonlocal`.
+    Nonlocal,
+}
+
+/// An annotation, and where in the text it begins.
+#[derive(Clone, Copy, Debug)]
+pub struct Annotation {
+    pub node: NodeId,
+    pub from: u32,
+}
+
+/// Where a name stands.
+#[derive(Debug, Drop)]
+pub struct Occurrence {
+    /// The `Name`.
+    pub node: NodeId,
+    pub name: NameId,
+    /// Whether it is the name of a builtin.
+    pub builtin: bool,
+    pub role: Role,
+    /// The scopes around it, the innermost first, and for a binding those from the one that it binds
+    /// in outward.
+    pub scopes: List<Scope>,
+    /// Whether it, or the target whose `p` it is, gets a value here.
+    pub valued: bool,
+    /// The annotation of what is bound here, where it has one.
+    pub annotation: Option<Annotation>,
+}
+
+fn is_import(binder: Option<Step>) -> bool
+    ensures { result ≡ of_kind is_import binder }
+{
+    match binder {
+        Some(step) => step.kind == NodeKind::Import,
+        None => false,
+    }
+}
+
+fn is_case(binder: Option<Step>) -> bool
+    ensures { result ≡ of_kind is_case binder }
+{
+    match binder {
+        Some(step) => step.kind == NodeKind::Case,
+        None => false,
+    }
+}
+
+fn is_named(binder: Option<Step>) -> bool
+    ensures { result ≡ of_kind is_named binder }
+{
+    match binder {
+        Some(step) => step.kind == NodeKind::Named,
+        None => false,
+    }
+}
+
+fn does_make_target(binder: Option<Step>) -> bool
+    ensures { result ≡ of_kind makes_member binder }
+{
+    match binder {
+        Some(step) => does_make_member(step.kind),
+        None => false,
+    }
+}
+
+fn if_import(binder: Option<Step>) -> Option<Step>
+    ensures { result ≡ if_import binder }
+{
+    if is_import(binder) { binder } else { None }
+}
+
+// What binds the place that the way leads out from.
+fn binder(way: &[Step]) -> Option<Step>
+    ensures { result ≡ binder way.now }
+{
+    let (step, outward) = way.split_first()?;
+    if does_bind(step.kind, step.part, step.parts) {
+        Some(*step)
+    } else if does_hand_on(step.kind, step.part) {
+        binder(outward)
+    } else if step.kind == NodeKind::Attribute {
+        if_import(binder(outward))
+    } else {
+        None
+    }
+}
+
+fn does_only_spell(way: &[Step]) -> bool
+    ensures { result ≡ only_spells way.now }
+{
+    match way.split_first() {
+        Some((step, outward)) => {
+            does_spell(step.kind, step.part) || (is_dotted(step.kind) && does_only_spell(outward))
+        }
+        None => false,
+    }
+}
+
+fn is_in_pattern_string(way: &[Step]) -> bool
+    ensures { result ≡ in_pattern_string way.now }
+{
+    match way.split_first() {
+        Some((step, outward)) => {
+            (step.kind == NodeKind::Strings && is_case(binder(outward)))
+                || is_in_pattern_string(outward)
+        }
+        None => false,
+    }
+}
+
+// Whether the name counts as one; it is `_`, or it isn't.
+fn does_count(is_underscore: bool, way: &[Step]) -> bool
+    ensures { result ≡ counts is_underscore way.now }
+{
+    !does_only_spell(way) && !is_in_pattern_string(way) && !(is_underscore && is_case(binder(way)))
+}
+
+fn is_group(step: &Step) -> bool
+    ensures { result ≡ is_group step.now }
+{
+    step.kind == NodeKind::Round && step.parts == 1
+}
+
+fn target_way(way: &[Step]) -> &[Step]
+    ensures { result.now ≡ target_way way.now }
+{
+    match way.split_first() {
+        Some((step, outward)) => {
+            if step.kind == NodeKind::Attribute {
+                way
+            } else if is_group(step) {
+                target_way(outward)
+            } else {
+                &[]
+            }
+        }
+        None => way,
+    }
+}
+
+fn node_around(way: &[Step]) -> NodeId
+    ensures { result ≡ node_around way.now }
+{
+    match way.split_first() {
+        Some((step, _)) => step.around,
+        None => NodeId(0),
+    }
+}
+
+fn target_binder(target: &[Step]) -> Option<Step>
+    ensures { result ≡ target_binder target.now }
+{
+    let (_, outward) = target.split_first()?;
+    let binder = binder(outward);
+    if does_make_target(binder) {
+        binder
+    } else {
+        None
+    }
+}
+
+fn decorated(way: &[Step]) -> Option<NodeId>
+    ensures { result ≡ decorated way.now }
+{
+    let (step, outward) = way.split_first()?;
+    if step.kind == NodeKind::Decorator {
+        Some(node_around(outward))
+    } else if is_group(step) {
+        decorated(outward)
+    } else {
+        None
+    }
+}
+
+fn is_first_part(way: &[Step]) -> bool
+    ensures { result ≡ is_first_part way.now }
+{
+    match way.split_first() {
+        Some((step, _)) => step.kind == NodeKind::Parameters && step.part == 0,
+        None => false,
+    }
+}
+
+fn is_first_parameter(way: &[Step]) -> bool
+    ensures { result ≡ is_first_parameter way.now }
+{
+    match way.split_first() {
+        Some((step, outward)) => {
+            is_first_part(way)
+                || (is_long_parameter(step.kind) && step.part == 0 && is_first_part(outward))
+        }
+        None => false,
+    }
+}
+
+// The text of a name; nothing where the tree has no such name.
+fn text_of(tree: &Tree, name: NameId) -> &str
+    ensures { result.now ≡ text_of tree.now.names name }
+{
+    if (name.0 as usize) < tree.name_count() {
+        tree.name(name)
+    } else {
+        ""
+    }
+}
+
+fn word_name(word: &Word) -> Option<NameId>
+    ensures { result ≡ word_name word.now }
+{
+    match word {
+        Word::Name(name) => Some(*name),
+        _ => None,
+    }
+}
+
+// The name that is the word of a node.
+fn name_of(tree: &Tree, id: NodeId) -> Option<NameId>
+    ensures { result ≡ name_of tree.now id }
+{
+    if (id.0 as usize) >= tree.node_count() {
+        return None;
+    }
+    word_name(&tree.node(id).word)
+}
+
+fn object_of(target: NodeId, name: Option<NameId>) -> Role
+    ensures { result ≡ object_of target name }
+{
+    match name {
+        Some(name) => Role::Object(target, name),
+        None => Role::Read,
+    }
+}
+
+fn read_by(tree: &Tree, target: &[Step], binder: Option<Step>) -> Role
+    ensures { result ≡ read_by tree.now target.now binder }
+{
+    match binder {
+        Some(_) => object_of(node_around(target), name_of(tree, node_around(target))),
+        None => Role::Read,
+    }
+}
+
+fn static_at(is_staticmethod: bool, way: &[Step]) -> Option<NodeId>
+    ensures { result ≡ static_at is_staticmethod way.now }
+{
+    if is_staticmethod {
+        decorated(way)
+    } else {
+        None
+    }
+}
+
+fn static_or(decorated: Option<NodeId>, other: Role) -> Role
+    ensures { result ≡ static_or decorated other }
+{
+    match decorated {
+        Some(statement) => Role::Static(statement),
+        None => other,
+    }
+}
+
+// What a name that isn't bound here is there for.
+fn read_role(tree: &Tree, is_staticmethod: bool, way: &[Step]) -> Role
+    ensures { result ≡ read_role tree.now is_staticmethod way.now }
+{
+    match kind_around(way) {
+        NodeKind::Global => Role::Global,
+        NodeKind::Nonlocal => Role::Nonlocal,
+        _ => {
+            let target = target_way(way);
+            let read = read_by(tree, target, target_binder(target));
+            static_or(static_at(is_staticmethod, way), read)
+        }
+    }
+}
+
+fn role_of(tree: &Tree, is_staticmethod: bool, way: &[Step]) -> Role
+    ensures { result ≡ role_of tree.now is_staticmethod way.now }
+{
+    match binder(way) {
+        Some(_) if is_first_parameter(way) => Role::FirstParameter,
+        Some(_) => Role::Binding,
+        None => read_role(tree, is_staticmethod, way),
+    }
+}
+
+// What binds the name, or the target whose `p` it is.
+fn some_binder(way: &[Step]) -> Option<Step>
+    ensures { result ≡ some_binder way.now (binder way.now) }
+{
+    match binder(way) {
+        Some(step) => Some(step),
+        None => target_binder(target_way(way)),
+    }
+}
+
+fn is_valued(binder: Option<Step>) -> bool
+    ensures { result ≡ valued_by binder }
+{
+    match binder {
+        Some(step) => does_give_value(step.kind, step.parts),
+        None => false,
+    }
+}
+
+fn annotation_at(tree: &Tree, id: Option<NodeId>) -> Option<Annotation>
+    ensures { result ≡ annotation_of tree.now id }
+{
+    let node = id?;
+    let from = if (node.0 as usize) < tree.node_count() {
+        tree.node(node).span.from
+    } else {
+        0
+    };
+    Some(Annotation { node, from })
+}
+
+fn second_part(tree: &Tree, id: NodeId) -> Option<NodeId>
+    ensures { result ≡ slice_get (parts_of (slice_get tree.now.nodes id.0)) 1 }
+{
+    if (id.0 as usize) < tree.node_count() {
+        tree.node(id).parts.as_slice().get(1).copied()
+    } else {
+        None
+    }
+}
+
+fn annotation_by(tree: &Tree, binder: Option<Step>) -> Option<Annotation>
+    ensures { result ≡ annotation_by tree.now binder }
+{
+    let step = binder?;
+    if is_annotated(step.kind, step.parts) {
+        annotation_at(tree, second_part(tree, step.around))
+    } else {
+        None
+    }
+}
+
+// The scopes around, for a binding from the one that it binds in outward.
+fn scopes_for(alloc: Global, way: &[Step]) -> Result<List<Scope>, NoMemory>
+    ensures { IfOk result (λ scopes. scopes ≡ scopes_for way.now) }
+{
+    let scopes = scopes_along(alloc, way)?.into_list();
+    if is_named(binder(way)) {
+        match Vec::from_slice(alloc, from_taker(scopes.as_slice())) {
+            Ok(taker) => Ok(List::from_vec(taker)),
+            Err(_) => Err(NoMemory),
+        }
+    } else {
+        Ok(scopes)
+    }
+}
+
+fn is_among(names: &[&str], text: &str) -> bool
+    ensures { result ≡ list_any (bytes_eq text.now) (map (λ n. n.now) names.now) }
+{
+    for name in names {
+        if text == *name {
+            return true;
+        }
+    }
+    false
+}
+
+fn is_builtin(text: &str) -> bool
+    ensures { result ≡ is_builtin text.now }
+{
+    is_among(&BUILTIN_NAMES, text)
+}
+
+fn is_staticmethod(text: &str) -> bool
+    ensures { result ≡ bytes_eq text.now (codes "staticmethod") }
+{
+    text == "staticmethod"
+}
+
+fn is_underscore(text: &str) -> bool
+    ensures { result ≡ bytes_eq text.now (codes "_") }
+{
+    text == "_"
+}
+
+fn occurrence_on(
+    alloc: Global,
+    tree: &Tree,
+    id: NodeId,
+    name: NameId,
+    way: &[Step],
+) -> Result<Occurrence, NoMemory>
+    ensures { IfOk result (λ o. o ≡ occurrence_on tree.now id name way.now) }
+{
+    let text = text_of(tree, name);
+    let binder = some_binder(way);
+    Ok(Occurrence {
+        node: id,
+        name,
+        builtin: is_builtin(text),
+        role: role_of(tree, is_staticmethod(text), way),
+        scopes: scopes_for(alloc, way)?,
+        valued: is_valued(binder),
+        annotation: annotation_by(tree, binder),
+    })
+}
+
+// The name that a leaf is.
+fn leaf_name(tree: &Tree, id: NodeId) -> Option<NameId>
+    ensures { result ≡ leaf_name (slice_get tree.now.nodes id.0) }
+{
+    if (id.0 as usize) >= tree.node_count() {
+        return None;
+    }
+    let node = tree.node(id);
+    if node.kind == NodeKind::Name {
+        word_name(&node.word)
+    } else {
+        None
+    }
+}
+
+/// The occurrence of a name at a node, `None` exactly where none stands there. `NoMemory` where it
+/// could not be stored.
+pub(crate) fn occurrence_at(
+    alloc: Global,
+    tree: &Tree,
+    id: NodeId,
+) -> Result<Option<Occurrence>, NoMemory>
+    ensures { IfOk result (λ o. o ≡ occurrence_at tree.now id) }
+{
+    let Some(name) = leaf_name(tree, id) else {
+        return Ok(None);
+    };
+    let way = way_out(alloc, tree, id)?;
+    if !does_count(is_underscore(text_of(tree, name)), way.as_slice()) {
+        return Ok(None);
+    }
+    let occurrence = occurrence_on(alloc, tree, id, name, way.as_slice())?;
+    Ok(Some(occurrence))
+}
+
+/// Adds an item, where there is one. `NoMemory` where it could not be stored.
+pub(crate) fn push_some<T: Drop>(items: &mut List<T>, item: Option<T>) -> Result<(), NoMemory>
+    ensures { OnOk result (items.new ≡ items.old ++ option_to_list item) }
+{
+    match item {
+        Some(item) => items.push(item),
+        None => Ok(()),
+    }
+}
+
+/// All occurrences of names, by the numbers of their nodes. `NoMemory` where they could not be
+/// stored.
+pub(crate) fn occurrences(alloc: Global, tree: &Tree) -> Result<List<Occurrence>, NoMemory>
+    ensures all { IfOk result (λ all. all ≡ occurrences tree.now) }
+    ensures room { IfOk result (λ all. length all < 33554432) }
+{
+    let mut all = List::new(alloc);
+    for number in 0..tree.node_count() {
+        push_some(&mut all, occurrence_at(alloc, tree, NodeId(number as u32))?)?;
+    }
+    Ok(all)
+}

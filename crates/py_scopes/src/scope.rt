@@ -1,0 +1,149 @@
+//! Scopes, and the symbols in them.
+ghost use Rattle.std.specs.Prelude.{◌≡◌};
+ghost use Rattle.py_scopes.specs.Scopes.{is_of_types, same_scope, is_innermost, from_first, is_module, is_class, is_def, hides_classes, takes_named, has_graph, same_graph};
+ghost use Rattle.py_scopes.specs.Owner.{same_name, same_symbol};
+
+use py_base::{NameId, NodeId};
+
+/// What a scope belongs to.
+#[derive(Clone, Copy, Debug)]
+pub enum ScopeKind {
+    Module,
+    Class,
+    Def,
+    Lambda,
+    Comprehension,
+    /// A list of type parameters, which may be empty.
+    TypeParameters,
+}
+
+/// A scope: the node that it belongs to, and what of that node it is.
+#[derive(Clone, Copy, Debug)]
+pub struct Scope {
+    pub node: NodeId,
+    pub kind: ScopeKind,
+}
+
+/// A name of a scope.
+#[derive(Clone, Copy, Debug)]
+pub struct Symbol {
+    pub scope: Scope,
+    pub name: NameId,
+}
+
+fn is_of_types(kind: ScopeKind) -> bool
+    ensures { result ≡ is_of_types kind }
+{
+    matches!(kind, ScopeKind::TypeParameters)
+}
+
+/// Whether both are one scope.
+pub(crate) fn is_same_scope(one: Scope, other: Scope) -> bool
+    ensures { result ≡ same_scope one other }
+{
+    one.node.0 == other.node.0 && is_of_types(one.kind) == is_of_types(other.kind)
+}
+
+/// Whether both are one name.
+pub(crate) fn is_same_name(one: NameId, other: NameId) -> bool
+    ensures { result ≡ same_name one other }
+{
+    one.0 == other.0
+}
+
+/// Whether both are one symbol.
+pub(crate) fn is_same_symbol(one: Symbol, other: Symbol) -> bool
+    ensures { result ≡ same_symbol one other }
+{
+    is_same_name(one.name, other.name) && is_same_scope(one.scope, other.scope)
+}
+
+/// Whether the scope is the innermost of these.
+pub(crate) fn is_innermost(scope: Scope, scopes: &[Scope]) -> bool
+    ensures { result ≡ is_innermost scope scopes.now }
+{
+    match scopes.split_first() {
+        Some((first, _)) => is_same_scope(scope, *first),
+        None => false,
+    }
+}
+
+fn is_module(kind: ScopeKind) -> bool
+    ensures { result ≡ is_module kind }
+{
+    matches!(kind, ScopeKind::Module)
+}
+
+pub(crate) fn is_class(kind: ScopeKind) -> bool
+    ensures { result ≡ is_class kind }
+{
+    matches!(kind, ScopeKind::Class)
+}
+
+pub(crate) fn is_def(kind: ScopeKind) -> bool
+    ensures { result ≡ is_def kind }
+{
+    matches!(kind, ScopeKind::Def)
+}
+
+/// Whether no class is seen behind such a scope.
+pub(crate) fn does_hide_classes(kind: ScopeKind) -> bool
+    ensures { result ≡ hides_classes kind }
+{
+    matches!(
+        kind,
+        ScopeKind::Def | ScopeKind::Lambda | ScopeKind::Comprehension
+    )
+}
+
+fn does_take_named(kind: ScopeKind) -> bool
+    ensures { result ≡ takes_named kind }
+{
+    !matches!(kind, ScopeKind::Comprehension | ScopeKind::TypeParameters)
+}
+
+fn has_graph(kind: ScopeKind) -> bool
+    ensures { result ≡ has_graph kind }
+{
+    matches!(kind, ScopeKind::Module | ScopeKind::Def | ScopeKind::Lambda)
+}
+
+/// From the module outward: the module alone, or nothing.
+pub(crate) fn from_module(scopes: &[Scope]) -> &[Scope]
+    ensures { result.now ≡ from_first is_module scopes.now }
+{
+    match scopes.split_first() {
+        Some((first, rest)) if !is_module(first.kind) => from_module(rest),
+        _ => scopes,
+    }
+}
+
+/// From the scope outward in which a named expression binds.
+pub(crate) fn from_taker(scopes: &[Scope]) -> &[Scope]
+    ensures { result.now ≡ from_first takes_named scopes.now }
+{
+    match scopes.split_first() {
+        Some((first, rest)) if !does_take_named(first.kind) => from_taker(rest),
+        _ => scopes,
+    }
+}
+
+// From the first scope that has a graph outward.
+fn from_graph(scopes: &[Scope]) -> &[Scope]
+    ensures { result.now ≡ from_first has_graph scopes.now }
+{
+    match scopes.split_first() {
+        Some((first, rest)) if !has_graph(first.kind) => from_graph(rest),
+        _ => scopes,
+    }
+}
+
+/// Whether both are run by one graph.
+pub(crate) fn is_same_graph(one: &[Scope], other: &[Scope]) -> bool
+    ensures { result ≡ same_graph one.now other.now }
+{
+    match from_graph(one).split_first() {
+        Some((first, _)) => is_innermost(*first, from_graph(other)),
+        None => false,
+    }
+}

@@ -1,0 +1,76 @@
+//! The table of a module.
+
+use crate::owner::Owner;
+use py_base::{List, NameId, NodeId, SymId};
+use std::marker::Model;
+
+/// For each node of a module the owner of the name there, for each symbol its declaration and its
+/// bindings, and for each class statement its members. A contract sees it as these lists.
+///
+/// Symbols are numbered from 0, in the order of the nodes that first bind them.
+#[derive(Debug, Drop)]
+pub struct Scopes {
+    pub(crate) owners: List<Owner>,
+    pub(crate) declared: List<Option<NodeId>>,
+    pub(crate) bound: List<List<NodeId>>,
+    pub(crate) members: List<List<(NameId, SymId)>>,
+}
+
+impl Model for Scopes {
+    ghost use Rattle.py_scopes.specs.Table.{ScopeTable, IsWhole};
+
+    ghost Value = { ScopeTable };
+
+    ghost view = { λ s. record { owners = s.owners; declared = s.declared; bound = s.bound; members = s.members } };
+
+    ghost invariant = { λ s. IsWhole (record { owners = s.owners; declared = s.declared; bound = s.bound; members = s.members }) };
+}
+
+impl Scopes {
+    ghost use Rattle.std.specs.Prelude.{◌≡◌, ◌<◌, Some, length, slice_get};
+    ghost use Rattle.py_scopes.specs.Table.{IsNumbered, AreNumbered};
+
+    /// Whose the name at a node is.
+    pub fn owner(&self, node: NodeId) -> Owner
+        requires { node.0 < length self.now.owners }
+        ensures value { slice_get self.now.owners node.0 ≡ Some result }
+        ensures numbered { IsNumbered (length self.now.bound) result }
+    {
+        self.owners.as_slice()[node.0 as usize]
+    }
+
+    /// The annotation of a symbol that stands first in the text, `None` exactly where it has none.
+    pub fn declaration(&self, sym: SymId) -> Option<NodeId>
+        requires { sym.0 < length self.now.bound }
+        ensures { slice_get self.now.declared sym.0 ≡ Some result }
+    {
+        self.declared.as_slice()[sym.0 as usize]
+    }
+
+    /// Where a symbol gets a value, by the numbers of the names: the names, and for a member `p.m` the
+    /// attributes.
+    pub fn bindings(&self, sym: SymId) -> &[NodeId]
+        requires { sym.0 < length self.now.bound }
+        ensures { slice_get self.now.bound sym.0 ≡ Some result.now }
+    {
+        self.bound.as_slice()[sym.0 as usize].as_slice()
+    }
+
+    /// How many symbols there are.
+    pub fn symbols(&self) -> u32
+        ensures count { result ≡ length self.now.bound }
+        ensures room { result < 33554432 }
+    {
+        self.bound.len() as u32
+    }
+
+    /// The member symbols of a class statement, each once, by their numbers. Of another node it gives
+    /// none.
+    pub fn members(&self, class: NodeId) -> &[(NameId, SymId)]
+        requires { class.0 < length self.now.owners }
+        ensures value { slice_get self.now.members class.0 ≡ Some result.now }
+        ensures numbered { AreNumbered (length self.now.bound) result.now }
+    {
+        self.members.as_slice()[class.0 as usize].as_slice()
+    }
+}

@@ -1,0 +1,4 @@
+pub mod Answer
+pub mod LineKinds
+pub mod LineLemmas
+pub mod ReadLines
