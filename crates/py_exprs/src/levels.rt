@@ -1,8 +1,9 @@
 //! Expressions by their level.
-ghost use Rattle.std.specs.Prelude.{◌≡◌, ◌<◌, ℕ, List, length, IfOk, IfSome, IfNone, IsSomeAnd, OnErr};
+ghost use Rattle.std.specs.Prelude.{◌≡◌, ◌<◌, ◌*◌, ℕ, List, length, IfOk, IfSome, IfNone, IsSomeAnd, OnErr};
 ghost use Rattle.py_base.specs.Tree.{SyntaxTree, tree_of, Grows};
 ghost use Rattle.py_base.specs.OneTree.{AddsOneTree};
 ghost use Rattle.py_tokens.specs.declared.lines.Token.{Token};
+ghost use Rattle.py_grammar.specs.Added.{AddsAtMost};
 ghost use Rattle.py_grammar.specs.Levelled.{IsTreeOf};
 ghost use Rattle.py_exprs.specs.Levels.{need_at};
 
@@ -43,7 +44,8 @@ fn need_of(level: u8) -> Need
 /// `None` exactly where the tokens spell no such tree: one in which each part has the level that
 /// its place asks, arguments, parameters, targets and the entries of brackets stand as they may,
 /// and which is at most 256 high. `NoMemory` where a node or a name could not be stored. After
-/// both the tree is as before. Time goes by the number of tokens.
+/// both the tree is as before. What is added is at most two nodes and one name for each token. Time
+/// goes by the number of tokens.
 ///
 /// Python 3.12 language reference, section 6, with its table of precedence in 6.17.
 pub fn expression(
@@ -60,6 +62,8 @@ pub fn expression(
     ensures only { IfOk result (λ o. (t : SyntaxTree) → IsTreeOf tokens.now (need_at level) t → IsSomeAnd o (λ id. tree_of tree.new id ≡ t)) }
     // What was added is this one tree: its root is the newest node, and no node is a part twice.
     ensures once { IfOk result (λ o. IfSome o (λ id. AddsOneTree tree.old tree.new id)) }
+    // Each token adds at most two nodes and one name.
+    ensures grows { AddsAtMost (2 * length tokens.now) (length tokens.now) tree.old tree.new }
     ensures none { IfOk result (λ o. IfNone o (tree.new ≡ tree.old)) }
     ensures err { OnErr result (tree.new ≡ tree.old) }
 {

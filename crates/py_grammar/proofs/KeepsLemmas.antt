@@ -1,11 +1,11 @@
 -- How often nodes are parts, as nodes come over others.
-use Rattle.std.proofs.Common.{◌≡◌, ℕ, zero, suc, ◌+◌, ◌<◌, ◌≤◌, ◌==◌, nat_lt, Bool, true, false, List, [], ◌∷◌, ◌++◌, length, map, drop, refl, sym, ◌∙◌, ap, arith, ◌⊎◌, inl, inr, append-nil, append_assoc, length-append}
-use Rattle.std.proofs.lemmas.Bool.{eqb-true, ltb-true, ltb-false}
+use Rattle.std.proofs.Common.{◌≡◌, ℕ, zero, suc, ◌+◌, ◌<◌, ◌≤◌, ◌==◌, nat_lt, Bool, true, false, List, [], ◌∷◌, ◌++◌, length, drop, refl, sym, ◌∙◌, ap, arith, ◌⊎◌, inl, inr, append-nil, append_assoc, length-append}
+use Rattle.std.proofs.lemmas.Bool.{ltb-true, ltb-false}
 use Rattle.std.proofs.lemmas.Bool.Decides.{eqb_tells}
 use Rattle.std.proofs.lemmas.List.{map-append}
 use Rattle.py_base.specs.declared.ids.NodeId.{NodeId}
 use Rattle.py_base.specs.declared.node.Node.{Node}
-use Rattle.py_base.specs.Tree.{Arena, AreOlder, AreLinked, IsLinked, Grows}
+use Rattle.py_base.specs.Tree.{Arena, AreOlder, AreLinked, IsLinked}
 use Rattle.py_base.specs.TreeLaws.{Grows-nodes, AreOlder-later}
 use Rattle.py_base.specs.OneTree.{times, all_parts, AddsOneTree}
 use Rattle.py_base.specs.OneTreeLaws.{times-append, all_parts-append}
@@ -14,7 +14,7 @@ use Rattle.py_tokens.specs.declared.lines.Token.{Token}
 use Rattle.py_grammar.specs.declared.found.Found.{Found}
 use Rattle.py_grammar.specs.declared.found.Item.{Item}
 use Rattle.py_grammar.specs.declared.found.Item.TheVariants as items
-use Rattle.py_grammar.specs.Found.{IsKnown, AllKnown, AreKnown, Extends, item_ids, found_ids, uses, Keeps, IsNewest}
+use Rattle.py_grammar.specs.Found.{AllKnown, AreKnown, Extends, item_ids, found_ids, uses, Keeps, IsNewest}
 
 times-other : (n : ℕ) (id : NodeId) (ids : List NodeId) → id.0 < n → times n (id ∷ ids) ≡ times n ids
 times-other n id ids lt = go (eqb_tells id.0 n)

@@ -5,5 +5,6 @@ pub mod Sound
 pub mod OrderLemmas
 pub mod KnownLemmas
 pub mod KeepsLemmas
+pub mod AddedLemmas
 pub mod Partway
 pub mod Exact

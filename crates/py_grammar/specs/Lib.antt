@@ -6,3 +6,4 @@ pub mod Meaning
 pub mod Proper
 pub mod Levelled
 pub mod Found
+pub mod Added

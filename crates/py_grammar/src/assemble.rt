@@ -1,10 +1,11 @@
 //! Nodes over what was read.
-ghost use Rattle.std.specs.Prelude.{◌≡◌, ◌<◌, ◌∷◌, ◌++◌, ◌+◌, ◌&&◌, [], suc, min, max, map, length, fold, IfOk, OnOk};
+ghost use Rattle.std.specs.Prelude.{◌≡◌, ◌<◌, ◌∷◌, ◌++◌, ◌+◌, ◌*◌, ◌&&◌, [], suc, min, max, map, length, fold, IfOk, OnOk};
 ghost use Rattle.std.specs.List.{list_all, list_any};
 ghost use Rattle.py_grammar.specs.Proper.{begins_imaginary};
 ghost use Rattle.py_base.specs.Tree.{Arena, said, node, tree_of, IsNamed, IsLinked, Grows};
-ghost use Rattle.py_grammar.specs.Meaning.{kept_one, kept, listed, assembled, leaf_of};
-ghost use Rattle.py_grammar.specs.Found.{IsKnown, AllKnown, AreKnown, piece_at, pieces_at, trees_at, is_part_next, one_assigned_over, assigned_over, parts_proper_over, begins_unreal_over, begins_signed_over, faulty_over, signed_over, unreal_over, proper_over, target_over, colon_over, highest, capped, Extends, item_ids, found_ids, Keeps, IsNewest};
+ghost use Rattle.py_grammar.specs.Meaning.{kept_one, kept, listed, assembled, leaf_of, takes_name, is_name};
+ghost use Rattle.py_grammar.specs.Added.{AddsAtMost, one_if, unless};
+ghost use Rattle.py_grammar.specs.Found.{IsKnown, AllKnown, AreKnown, piece_at, pieces_at, trees_at, is_part_next, one_assigned_over, assigned_over, parts_proper_over, begins_unreal_over, begins_signed_over, faulty_over, signed_over, unreal_over, proper_over, target_over, colon_over, highest, capped, Extends, item_words, item_ids, found_ids, Keeps, IsNewest};
 
 use crate::found::{Found, Item};
 use crate::order::{
@@ -189,6 +190,7 @@ fn add_node(
     ensures older { Extends tree.old tree.new }
     ensures node { IfOk result (λ x. IsKnown tree.new x × (x.form ≡ form) × (tree_of tree.new x.id ≡ node kind span (said tree.old.names word) (listed (trees_at tree.old parts.now)))) }
     ensures keeps { IfOk result (λ x. Keeps tree.old (found_ids parts.now) tree.new (x.id ∷ []) × IsNewest tree.old tree.new x.id) }
+    ensures grows { OnOk result (AddsAtMost 1 0 tree.old tree.new) }
 {
     let height = height_over(parts);
     let proper = is_proper_over(kind, parts);
@@ -228,6 +230,7 @@ fn add_leaf(
     ensures older { Extends tree.old tree.new }
     ensures leaf { IfOk result (λ x. IsKnown tree.new x × (tree_of tree.new x.id ≡ leaf_of kind token.now)) }
     ensures keeps { IfOk result (λ x. Keeps tree.old [] tree.new (x.id ∷ [])) }
+    ensures grows { OnOk result (AddsAtMost 1 (one_if (is_name kind)) tree.old tree.new) }
 {
     let word = leaf_word(tree, kind, token)?;
     let leaf = add_node(alloc, tree, Form::Name, kind, token.span, word, &[])?;
@@ -249,6 +252,7 @@ fn keep(
     ensures older { Extends tree.old tree.new }
     ensures kept { OnOk result (AllKnown tree.new parts.new × (trees_at tree.new parts.new ≡ trees_at tree.old parts.old ++ kept_one form (piece_at tree.old item.now) (is_part_next behind.now))) }
     ensures keeps { OnOk result (Keeps tree.old (found_ids parts.old ++ item_ids (item.now ∷ [])) tree.new (found_ids parts.new)) }
+    ensures grows { OnOk result (AddsAtMost (length (item_words (item.now ∷ []))) (unless (takes_name form) (length (item_words (item.now ∷ [])))) tree.old tree.new) }
 {
     match *item {
         Item::Part(found) => {
@@ -282,6 +286,7 @@ fn kept_parts(
     ensures older { Extends tree.old tree.new }
     ensures kept { IfOk result (λ v. AllKnown tree.new v × (trees_at tree.new v ≡ kept form (pieces_at tree.old items.now))) }
     ensures keeps { IfOk result (λ v. Keeps tree.old (item_ids items.now) tree.new (found_ids v)) }
+    ensures grows { OnOk result (AddsAtMost (length (item_words items.now)) (unless (takes_name form) (length (item_words items.now))) tree.old tree.new) }
 {
     let mut parts = List::new(alloc);
     'items: for at in 0..items.len() {
@@ -302,6 +307,7 @@ pub fn assemble(
     ensures older { Extends tree.old tree.new }
     ensures node { IfOk result (λ x. IsKnown tree.new x × (x.form ≡ form) × (tree_of tree.new x.id ≡ assembled form (pieces_at tree.old items.now))) }
     ensures keeps { IfOk result (λ x. Keeps tree.old (item_ids items.now) tree.new (x.id ∷ []) × IsNewest tree.old tree.new x.id) }
+    ensures grows { OnOk result (0 < length (item_words items.now) → AddsAtMost (2 * length (item_words items.now)) (length (item_words items.now)) tree.old tree.new) }
 {
     let word = word_for(alloc, tree, form, items)?;
     let parts = kept_parts(alloc, tree, form, items)?;

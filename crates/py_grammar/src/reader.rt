@@ -1,11 +1,12 @@
 //! The reader: from tokens to the one tree that they spell.
 
-ghost use Rattle.std.specs.Prelude.{◌≡◌, ◌==◌, ◌&&◌, nat_le, ◌≤◌, ◌<◌, [], ◌∷◌, suc, length, IfOk, IfSome, IfNone, IsSomeAnd, OnErr};
+ghost use Rattle.std.specs.Prelude.{◌≡◌, ◌==◌, ◌&&◌, nat_le, ◌≤◌, ◌<◌, ◌+◌, ◌*◌, [], ◌∷◌, suc, length, IfOk, IfSome, IfNone, IsSomeAnd, OnErr};
 ghost use Rattle.py_base.specs.Tree.{SyntaxTree, tree_of, IsLinked, Grows};
 ghost use Rattle.py_grammar.specs.Parse.{peek, begins, goes_on, place_at, step_at, joint_at, opening_at, read_parts, read_begin, read};
 ghost use Rattle.py_grammar.specs.Levelled.{IsTreeOf};
 ghost use Rattle.py_grammar.specs.declared.found.Item.TheVariants as items;
-ghost use Rattle.py_grammar.specs.Found.{AreKnown, pieces_at, FindsTree, FindsParts, Extends, item_ids, Keeps, IsNewest};
+ghost use Rattle.py_grammar.specs.Found.{AreKnown, pieces_at, FindsTree, FindsParts, Extends, item_words, item_ids, Keeps, IsNewest};
+ghost use Rattle.py_grammar.specs.Added.{AddsAtMost, ArePaid};
 ghost use Rattle.py_base.specs.OneTree.{AddsOneTree};
 
 use crate::assemble::assemble;
@@ -125,6 +126,7 @@ fn parts_from<'a>(
     ensures older { Extends tree.old tree.new }
     ensures read { IfOk result (λ o. FindsParts (pieces_at tree.old first.entry) tree.new o (read_parts depth state tokens.now)) }
     ensures keeps { IfOk result (λ o. IfSome o (λ x. Keeps tree.old (item_ids first.entry) tree.new (item_ids x.0))) }
+    ensures paid { IfOk result (λ o. IfSome o (λ x. (length (item_words first.entry) ≤ length (item_words x.0)) × ArePaid tree.old (length (item_words first.entry) + length tokens.now) tree.new (length (item_words x.0) + length x.1.now))) }
 {
     let mut items = first;
     let mut state = state;
@@ -166,6 +168,7 @@ fn begin_from<'a>(
     ensures older { Extends tree.old tree.new }
     ensures read { IfOk result (λ o. FindsTree tree.new o (read_begin depth need tokens.now)) }
     ensures keeps { IfOk result (λ o. IfSome o (λ x. Keeps tree.old [] tree.new (x.0.id ∷ []) × IsNewest tree.old tree.new x.0.id)) }
+    ensures paid { IfOk result (λ o. IfSome o (λ x. ArePaid tree.old (length tokens.now) tree.new (length x.1.now))) }
 {
     let Some((word, others)) = tokens.split_first() else {
         return Ok(None);
@@ -194,6 +197,7 @@ fn tree_from<'a>(
     ensures older { Extends tree.old tree.new }
     ensures read { IfOk result (λ o. FindsTree tree.new o (read depth need tokens.now)) }
     ensures keeps { IfOk result (λ o. IfSome o (λ x. Keeps tree.old [] tree.new (x.0.id ∷ []) × IsNewest tree.old tree.new x.0.id)) }
+    ensures paid { IfOk result (λ o. IfSome o (λ x. ArePaid tree.old (length tokens.now) tree.new (length x.1.now))) }
 {
     if depth == 0 {
         return Ok(None);
@@ -242,6 +246,7 @@ fn whole_from(
     ensures found { IfOk result (λ o. IfSome o (λ id. (id.0 < length tree.new.nodes) × IsTreeOf tokens.now need (tree_of tree.new id))) }
     ensures only { IfOk result (λ o. (t : SyntaxTree) → IsTreeOf tokens.now need t → IsSomeAnd o (λ id. tree_of tree.new id ≡ t)) }
     ensures once { IfOk result (λ o. IfSome o (λ id. AddsOneTree tree.old tree.new id)) }
+    ensures grows { IfOk result (λ o. IfSome o (λ id. AddsAtMost (2 * length tokens.now) (length tokens.now) tree.old tree.new)) }
 {
     let Some((found, rest)) = tree_from(alloc, tree, MOST_HEIGHT, need, tokens)? else {
         return Ok(None);
@@ -255,24 +260,27 @@ fn whole_from(
 
 /// The one tree that the tokens spell and that meets the need: each part has the level that its
 /// place asks, it is at most 256 high, and it is proper. `None` exactly where there is none;
-/// `NoMemory` where a node or a name could not be stored. After both the tree is as before.
+/// `NoMemory` where a node or a name could not be stored. After both the tree is as before. What is
+/// added is at most two nodes and one name for each token.
 ///
 /// Proper says what the rows of the table can't:
-/// - what is bound is a name, an attribute, a subscript, `*` and such a target, or a list of targets
-///   in round or square brackets, in a comprehension, `for`, `with`, `del` and `=`; what is assigned
-///   is not one starred entry alone;
-/// - behind `name = value` stands no plain argument, and behind `**` no `*` either; one comprehension
-///   is the only argument;
-/// - `/` stands behind a parameter and before each `*` and `**`, there is one `*` at most, directly
-///   before a parameter if it has no name, and `**` is the last parameter;
+/// - what a comprehension, `for`, `with`, `del` and `=` bind is a name, an attribute, a subscript, `*`
+///   and such a target, or targets by commas, bare or in round or square brackets; what is assigned is
+///   not one starred entry alone;
+/// - outside of what is bound, no `*` stands directly behind `*`, and one starred entry in round
+///   brackets has a comma behind it;
+/// - behind `name = value` stands no plain argument, and behind `**` neither one nor `*`; `name = value`
+///   is no element of a comprehension;
+/// - there is one `/` at most, behind a parameter and before each `*` and `**`; there is one `*` at
+///   most, directly before a parameter if it has no name; and `**` is the last parameter;
 /// - the entries of curly brackets are those of a dict or those of a set;
-/// - one starred entry in round brackets has a comma behind it;
-/// - the `:` of a lambda that stands in no brackets is none of a field's value;
-/// - a sequence pattern has one `*` at most, the patterns of a class stand before those by name, and
-///   nothing is added to an imaginary number with a sign.
+/// - the value of a field has no lambda outside brackets and quotes, since the `:` would end the value;
+/// - a sequence pattern has one `*` at most, the patterns of a class that have no name stand before
+///   those by name, and in a pattern nothing is added to an imaginary number with a sign.
 ///
-/// Strings side by side that are of bytes and of characters have no tree, and bytes literals hold
-/// ASCII characters alone.
+/// Strings side by side are all of bytes or all of characters. A token has no place in any tree where
+/// it is an integer above 2 ^ 127 - 1, a bytes literal that isn't ASCII, or a word or an operator that
+/// the language lacks.
 ///
 /// Python 3.12 language reference, sections 6, 7 and 8.
 pub fn read_whole(
@@ -289,6 +297,8 @@ pub fn read_whole(
     ensures only { IfOk result (λ o. (t : SyntaxTree) → IsTreeOf tokens.now need t → IsSomeAnd o (λ id. tree_of tree.new id ≡ t)) }
     // What was added is this one tree: its root is the newest node, and no node is a part twice.
     ensures once { IfOk result (λ o. IfSome o (λ id. AddsOneTree tree.old tree.new id)) }
+    // Each token adds at most two nodes and one name.
+    ensures grows { AddsAtMost (2 * length tokens.now) (length tokens.now) tree.old tree.new }
     ensures none { IfOk result (λ o. IfNone o (tree.new ≡ tree.old)) }
     ensures err { OnErr result (tree.new ≡ tree.old) }
 {

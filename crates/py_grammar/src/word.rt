@@ -4,6 +4,7 @@ ghost use Rattle.py_base.specs.Tree.{said, IsNamed, Grows, IsLinked};
 ghost use Rattle.py_grammar.specs.Meaning.{is_word, has_word, first_word, kind_of_form, further_kind, kind_for, arithmetic_ops, comparison_ops, bitwise_ops, augmented_ops, conversions, op_of_text, spelled_op, op_of_words, operated, takes_name, takes_op, said_plainly, said_for, is_slice, is_relative, is_import, holds_name, only_if, is_name, said_leaf, mark_for, valued, value_of, named, converted};
 ghost use Rattle.py_grammar.specs.Terminal.{lookup};
 ghost use Rattle.py_grammar.specs.Found.{item_words, item_span, items_from, is_part_next, Extends, is_item, word_in};
+ghost use Rattle.py_grammar.specs.Added.{AddsAtMost, one_if};
 ghost use Rattle.py_grammar.specs.declared.words.Terminal.TheVariants as terminals;
 
 use crate::found::Item;
@@ -437,6 +438,7 @@ fn name_word(tree: &mut Tree, items: &[Item]) -> Result<Word, NoMemory>
     ensures older { Extends tree.old tree.new }
     ensures said { IfOk result (λ w. (said tree.new.names w ≡ named (find (is_word terminals.Name) (item_words items.now))) × IsNamed (length tree.new.names) w) }
     ensures same { OnOk result (tree.new.nodes ≡ tree.old.nodes) }
+    ensures grows { OnOk result (AddsAtMost 0 1 tree.old tree.new) }
 {
     match find_word(items, Terminal::Name) {
         None => Ok(Word::Nothing),
@@ -505,6 +507,7 @@ pub fn word_for(
     ensures older { Extends tree.old tree.new }
     ensures said { IfOk result (λ w. (said tree.new.names w ≡ said_for form (item_words items.now)) × IsNamed (length tree.new.names) w) }
     ensures same { OnOk result (tree.new.nodes ≡ tree.old.nodes) }
+    ensures grows { OnOk result (AddsAtMost 0 (one_if (takes_name form)) tree.old tree.new) }
 {
     if is_named_form(form) {
         name_word(tree, items)
@@ -578,6 +581,7 @@ pub fn leaf_word(tree: &mut Tree, kind: NodeKind, token: &Token) -> Result<Word,
     ensures older { Extends tree.old tree.new }
     ensures said { IfOk result (λ w. (said tree.new.names w ≡ said_leaf kind token.now) × IsNamed (length tree.new.names) w) }
     ensures same { OnOk result (tree.new.nodes ≡ tree.old.nodes) }
+    ensures grows { OnOk result (AddsAtMost 0 (one_if (is_name kind)) tree.old tree.new) }
 {
     if is_name(kind) {
         let id = tree.intern(token.text.as_str())?;

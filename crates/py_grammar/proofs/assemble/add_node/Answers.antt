@@ -2,6 +2,7 @@ use Rattle.std.proofs.Common.{refl}
 use Rattle.py_grammar.proofs.KnownLemmas.{Extends-refl, Extends-same, older-ids, node_added}
 use Rattle.py_grammar.specs.Found.{found_ids}
 use Rattle.py_grammar.proofs.KeepsLemmas.{Keeps-node, older-found}
+use Rattle.py_grammar.proofs.AddedLemmas.{adds-node}
 use Rattle.py_grammar.proofs.assemble.add_node.Goals as goal
 
 pub returns-in_err-ids-clause-older : goal.returns-in_err-ids-clause-older
@@ -25,3 +26,6 @@ returns-clause-node c =
 pub returns-clause-keeps : goal.returns-clause-keeps
 returns-clause-keeps c =
     Keeps-node c.args.tree.now c.add.new.self (record { kind = c.args.kind; span = c.args.span; parts = c.in_ok-ids.ids; word = c.args.word }) c.in_ok-id.id (found_ids c.args.parts.now) c.requires.linked (older-found c.args.tree.now c.args.parts.now c.requires.known) c.in_ok-ids.ensures c.in_ok-id.ensures.ok c.in_ok-id.ensures.id
+
+pub returns-clause-grows : goal.returns-clause-grows
+returns-clause-grows c = adds-node c.args.tree.now c.add.new.self _ c.in_ok-id.ensures.ok

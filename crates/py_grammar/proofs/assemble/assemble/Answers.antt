@@ -2,6 +2,8 @@ use Rattle.std.proofs.Common.{◌∙◌}
 use Rattle.py_grammar.proofs.KnownLemmas.{Extends-trans, AreKnown-later, assembled_is, named-later}
 use Rattle.py_grammar.specs.Found.{item_ids, found_ids}
 use Rattle.py_grammar.proofs.KeepsLemmas.{assembled-keeps}
+use Rattle.py_grammar.specs.Meaning.{takes_name}
+use Rattle.py_grammar.proofs.AddedLemmas.{assembled-adds}
 use Rattle.py_grammar.proofs.assemble.assemble.Goals as goal
 
 pub kept_parts-requires-clause-linked : goal.kept_parts-requires-clause-linked
@@ -37,3 +39,7 @@ pub returns-clause-keeps : goal.returns-clause-keeps
 returns-clause-keeps c =
     let keeps = rw c.as_slice.ensures at c.in_ok-found.ensures.keeps in
     assembled-keeps c.args.tree.now c.word_for.new.tree c.kept_parts.new.tree c.add_node.new.tree (item_ids c.args.items.now) (found_ids c.in_ok-parts.parts) c.in_ok-found.found.id c.in_ok-word.ensures.same c.kept_parts.ensures.older c.in_ok-parts.ensures.keeps keeps.0 keeps.1
+
+pub returns-clause-grows : goal.returns-clause-grows
+returns-clause-grows c some =
+    assembled-adds (takes_name c.args.form) c.args.tree.now c.word_for.new.tree c.kept_parts.new.tree c.add_node.new.tree _ c.in_ok-word.ensures.grows c.in_ok-parts.ensures.grows c.in_ok-found.ensures.grows some

@@ -2,6 +2,7 @@ use Rattle.std.proofs.Common.{◌≡◌, suc, ◌-◌, arith, sym, refl}
 use Rattle.py_grammar.proofs.KnownLemmas.{Extends-refl, Extends-trans}
 use Rattle.py_grammar.proofs.Partway.{IsPartway-start, IsPartway-word, IsPartway-part, IsPartway-stop, IsPartway-fail, IsPartway-short, IsPartway-none, IsClimbing-start, IsClimbing-met, IsClimbing-unmet, IsClimbing-none, IsClimbing-short, IsClimbing-node, begun, begun-none, begun-not, begun-short, read-none, read-not, shorter_parts, shorter_tree}
 use Rattle.py_grammar.proofs.KeepsLemmas.{Keeps-same, keeps-word, keeps-part, begun-keeps, joined-keeps}
+use Rattle.py_grammar.proofs.AddedLemmas.{paid-none, paid-word, paid-part, begun-pays, joined-pays}
 use Rattle.py_grammar.proofs.reader.+reader.Goals as goal
 
 pub begin_from-returns-in_default-clause-read : goal.begin_from-returns-in_default-clause-read
@@ -47,13 +48,16 @@ pub begin_from-returns-clause-older : goal.begin_from-returns-clause-older
 begin_from-returns-clause-older t c = Extends-trans _ _ _ c.parts_from.ensures.older c.assemble.ensures.older
 
 pub parts_from-parts-init : goal.parts_from-parts-init
-parts_from-parts-init t c = (IsPartway-start _ _ _ _ _ c.requires.linked c.requires.known, Keeps-same _ _ _ refl)
+parts_from-parts-init t c = (IsPartway-start _ _ _ _ _ c.requires.linked c.requires.known, Keeps-same _ _ _ refl, omega arith, paid-none _ _)
 
 pub parts_from-parts-preserved-in-Shift : goal.parts_from-parts-preserved-in-Shift
 parts_from-parts-preserved-in-Shift t c =
+    let paid = paid-word _ _ _ _ c.parts.items c.in-Some.word _ _ c.in-Some.ensures.cases.0 c.parts.invariant.2 c.parts.invariant.3 in
     rw c.in_ok-push-in-Shift.ensures.ok (
       IsPartway-word _ _ _ _ _ _ _ _ c.in-Some.word _ _ c.parts.invariant.0 (sym c.in-Shift.ensures) c.in-Some.ensures.cases.0,
       keeps-word _ _ _ c.parts.items c.in-Some.word c.parts.invariant.1,
+      paid.0,
+      paid.1,
     )
 
 pub parts_from-returns-in_default-clause-read : goal.parts_from-returns-in_default-clause-read
@@ -73,9 +77,13 @@ pub parts_from-parts-preserved : goal.parts_from-parts-preserved
 parts_from-parts-preserved t c =
     let f = rw c.in-Some-2.is at c.in_ok-found-in-Descend.ensures.read in
     let keeps = rw c.in-Some-2.is at c.in_ok-found-in-Descend.ensures.keeps in
+    let paid = rw c.in-Some-2.is at c.in_ok-found-in-Descend.ensures.paid in
+    let all = paid-part _ _ _ _ _ _ _ c.parts.items c.in-Some-2.found c.parts.invariant.2 c.parts.invariant.3 paid in
     rw c.in_ok-push-in-Descend.ensures.ok (
       IsPartway-part _ _ _ _ _ _ _ _ _ _ c.in-Some-2.found _ c.parts.invariant.0 (sym c.in-Descend.ensures) c.in_ok-found-in-Descend.ensures.older f,
       keeps-part _ _ _ _ c.parts.items c.in-Some-2.found c.parts.invariant.0.older c.parts.invariant.0.known c.parts.invariant.1 keeps.0,
+      all.0,
+      all.1,
     )
 
 pub parts_from-returns-in-Stop-clause-read : goal.parts_from-returns-in-Stop-clause-read
@@ -110,10 +118,12 @@ tree_from-returns-in_default-clause-read t c =
 pub tree_from-joints-init : goal.tree_from-joints-init
 tree_from-joints-init t c =
     let same : c.args.depth ≡ suc (c.args.depth - 1) = omega arith in
-    let keeps = rw c.in-Some.is at c.in_ok-begun.ensures.keeps in (
+    let keeps = rw c.in-Some.is at c.in_ok-begun.ensures.keeps in
+    let paid = rw c.in-Some.is at c.in_ok-begun.ensures.paid in (
       IsClimbing-start c.args.depth (c.args.depth - 1) c.args.need c.args.tree.now c.begin_from.new.tree c.in-Some.begun c.args.tokens.now _ same c.begin_from.ensures.older (rw c.in-Some.is at c.in_ok-begun.ensures.read),
       keeps.0,
       keeps.1,
+      paid,
     )
 
 pub tree_from-returns-in_default-split_first-clause-read : goal.tree_from-returns-in_default-split_first-clause-read
@@ -136,10 +146,13 @@ tree_from-joints-preserved t c =
     let node = rw c.as_slice.ensures at c.in_ok-next.ensures.node in
     let parts = rw c.in-Some-2.is at c.in_ok-items.ensures.keeps in
     let keeps = rw c.as_slice.ensures at c.in_ok-next.ensures.keeps in
+    let paid = rw c.in-Some-2.is at c.in_ok-items.ensures.paid in
+    let grows = rw c.as_slice.ensures at c.in_ok-next.ensures.grows in
     let all = joined-keeps _ _ _ _ c.in_ok-first.first c.in-Some-2.items c.in-Some-split_first.word c.joints.found c.in_ok-next.next c.in_ok-first.ensures c.joints.invariant.0.older c.parts_from.ensures.older c.joints.invariant.1 parts keeps.0 keeps.1 in (
       IsClimbing-node _ _ _ _ c.joints.tree c.parts_from.new.tree c.assemble.new.tree c.joints.found c.in_ok-next.next _ c.in-Some-split_first.word _ _ c.in_ok-first.first c.in-Some-2.items _ c.joints.invariant.0 (sym c.in-Some-joint_for.ensures) c.in-Some-split_first.ensures.cases.0 c.in_ok-first.ensures c.parts_from.ensures.older c.assemble.ensures.older f node.0 node.1 node.2,
       all.0,
       all.1,
+      joined-pays _ c.joints.tree c.parts_from.new.tree c.assemble.new.tree _ c.in_ok-first.first c.in-Some-2.items c.joints.found c.in-Some-split_first.word _ _ _ c.in_ok-first.ensures c.in-Some-split_first.ensures.cases.0 c.joints.invariant.3 paid grows,
     )
 
 pub tree_from-returns-then-does_meet-clause-read : goal.tree_from-returns-then-does_meet-clause-read
@@ -179,3 +192,15 @@ parts_from-returns-in-Stop-clause-keeps t c = c.parts.invariant.1
 
 pub tree_from-returns-then-does_meet-clause-keeps : goal.tree_from-returns-then-does_meet-clause-keeps
 tree_from-returns-then-does_meet-clause-keeps t c = (c.joints.invariant.1, c.joints.invariant.2)
+
+pub begin_from-returns-clause-paid : goal.begin_from-returns-clause-paid
+begin_from-returns-clause-paid t c =
+    let paid = rw c.in-Some-2.is at c.in_ok-items.ensures.paid in
+    let grows = rw c.as_slice.ensures at c.in_ok-found.ensures.grows in
+    begun-pays _ c.parts_from.new.tree c.assemble.new.tree c.in_ok-first.first c.in-Some-2.items c.in-Some.word _ _ _ c.in_ok-first.ensures c.in-Some.ensures.cases.0 paid grows
+
+pub parts_from-returns-in-Stop-clause-paid : goal.parts_from-returns-in-Stop-clause-paid
+parts_from-returns-in-Stop-clause-paid t c = (c.parts.invariant.2, c.parts.invariant.3)
+
+pub tree_from-returns-then-does_meet-clause-paid : goal.tree_from-returns-then-does_meet-clause-paid
+tree_from-returns-then-does_meet-clause-paid t c = c.joints.invariant.3

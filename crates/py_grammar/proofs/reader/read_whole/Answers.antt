@@ -17,3 +17,6 @@ returns-in-Err-clause-older c =
 
 pub returns-in-Ok-Some-clause-once : goal.returns-in-Ok-Some-clause-once
 returns-in-Ok-Some-clause-once c = rw c.in-Ok-Some.field-0-is at c.in-Ok-Some.ensures.once
+
+pub returns-in-Ok-Some-clause-grows : goal.returns-in-Ok-Some-clause-grows
+returns-in-Ok-Some-clause-grows c = rw c.in-Ok-Some.field-0-is at c.in-Ok-Some.ensures.grows

@@ -2,6 +2,7 @@ use Rattle.std.proofs.Common.{◌∙◌}
 use Rattle.std.proofs.lemmas.Bool.{false≢true}
 use Rattle.py_grammar.proofs.Exact.{none_found, one_found, is_tree, rest_found, whole_parts, whole_is}
 use Rattle.py_grammar.proofs.KeepsLemmas.{Keeps-tree}
+use Rattle.py_grammar.proofs.AddedLemmas.{paid-all}
 use Rattle.py_grammar.proofs.reader.whole_from.Goals as goal
 
 pub returns-in_default-clause-only : goal.returns-in_default-clause-only
@@ -28,3 +29,8 @@ pub returns-then-is_whole-clause-once : goal.returns-then-is_whole-clause-once
 returns-then-is_whole-clause-once c =
     let keeps = rw c.in-Some.is at c.in_ok-found.ensures.keeps in
     Keeps-tree _ _ _ keeps.0 keeps.1
+
+pub returns-then-is_whole-clause-grows : goal.returns-then-is_whole-clause-grows
+returns-then-is_whole-clause-grows c =
+    let paid = rw c.in-Some.is at c.in_ok-found.ensures.paid in
+    paid-all _ _ _ _ paid
