@@ -7,30 +7,45 @@ use Rattle.std.proofs.lemmas.Bool.{lt-ltb, lt-leb, le-leb}
 use Rattle.py_blocks.specs.declared.facts.LineFacts.{LineFacts}
 use Rattle.py_blocks.specs.declared.sort.Sort.{Sort}
 use Rattle.py_blocks.specs.declared.sort.Sort.TheVariants as sorts
-use Rattle.py_blocks.specs.Blocks.{column_at, is_a, stays_right_of, encloses, encloses_as, stands_in, lies_between, is_around, is_in_loop_at, is_in_match}
+use Rattle.py_blocks.specs.Blocks.{column_at, is_a, stays_right_of, encloses, encloses_as, stands_in, lies_between, is_in_loop_at}
 use Rattle.py_blocks.specs.Search.{some_below, each_below, count_below}
-use Rattle.py_blocks.specs.Shortcuts.{open_at, opens_one, count_open, opens_inside, is_loop_open, opens_loop, has_behind, is_match_open, opens_match}
+use Rattle.py_blocks.specs.Shortcuts.{open_at, opens_one, count_open}
+
+-- ---- searches of the open blocks, which only proofs speak of
+
+-- behind the line j an open block is of this sort
+abbrev pub opens_inside : List LineFacts → Sort → List ℕ → ℕ → Bool
+opens_inside lines s open_blocks j = list_any (λ k. nat_lt j k && is_a lines k s) open_blocks
+
+abbrev pub is_loop_open : List LineFacts → List ℕ → ℕ → Bool
+is_loop_open lines open_blocks j = is_a lines j sorts.Loop && not (opens_inside lines sorts.Scope open_blocks j)
+
+abbrev pub opens_loop : List LineFacts → List ℕ → Bool
+opens_loop lines open_blocks = list_any (λ j. is_loop_open lines open_blocks j) open_blocks
+
+abbrev pub has_behind : List ℕ → ℕ → Bool
+has_behind open_blocks j = list_any (λ k. nat_lt j k) open_blocks
 
 -- ---- tests
 
-and-true : (b : Bool) → (b && true) ≡ b
+pub and-true : (b : Bool) → (b && true) ≡ b
 and-true true = refl
 and-true false = refl
 
-and-false : (b : Bool) → (b && false) ≡ false
+pub and-false : (b : Bool) → (b && false) ≡ false
 and-false true = refl
 and-false false = refl
 
-and-assoc : (a b c : Bool) → (a && (b && c)) ≡ ((a && b) && c)
+pub and-assoc : (a b c : Bool) → (a && (b && c)) ≡ ((a && b) && c)
 and-assoc true b c = refl
 and-assoc false b c = refl
 
-and-last : (a b c : Bool) → ((a && b) && c) ≡ ((a && c) && b)
+pub and-last : (a b c : Bool) → ((a && b) && c) ≡ ((a && c) && b)
 and-last true true c = sym (and-true c)
 and-last true false c = sym (and-false c)
 and-last false b c = refl
 
-and-turn : (a b c : Bool) → (a && (b && c)) ≡ ((c && b) && a)
+pub and-turn : (a b c : Bool) → (a && (b && c)) ≡ ((c && b) && a)
 and-turn true true true = refl
 and-turn true true false = refl
 and-turn true false true = refl
@@ -42,7 +57,7 @@ and-turn false false false = refl
 
 -- ---- a search through what a filter keeps
 
-any-through : (e t f : ℕ → Bool) (xs : List ℕ) → ((x : ℕ) → f x ≡ (t x && e x)) → list_any f xs ≡ list_any t (filter e xs)
+pub any-through : (e t f : ℕ → Bool) (xs : List ℕ) → ((x : ℕ) → f x ≡ (t x && e x)) → list_any f xs ≡ list_any t (filter e xs)
 any-through e t f [] h = refl
 any-through e t f (x ∷ xs) h = go (e x) refl (any-through e t f xs h)
   where
@@ -78,7 +93,7 @@ stands-open lines s i = any-through (λ j. encloses lines j i) (λ j. is_a lines
 pub count-open : (lines : List LineFacts) (s : Sort) (i : ℕ) → count_below i (λ j. encloses_as lines s j i) ≡ count_open lines s (open_at lines i)
 count-open lines s i = count-through (λ j. encloses lines j i) (λ j. is_a lines j s) (λ j. encloses_as lines s j i) (range_with_len 0 i) (λ j. refl)
 
-inside-open : (lines : List LineFacts) (s : Sort) (i j : ℕ) → lies_between lines s j i ≡ opens_inside lines s (open_at lines i) j
+pub inside-open : (lines : List LineFacts) (s : Sort) (i j : ℕ) → lies_between lines s j i ≡ opens_inside lines s (open_at lines i) j
 inside-open lines s i j =
     any-through (λ k. encloses lines k i) (λ k. nat_lt j k && is_a lines k s) (λ k. nat_lt j k && encloses_as lines s k i) (range_with_len 0 i) (λ k. and-assoc (nat_lt j k) (is_a lines k s) (encloses lines k i))
 
@@ -87,16 +102,9 @@ loop-open lines i =
     any-through (λ j. encloses lines j i) (λ j. is_loop_open lines (open_at lines i) j) (λ j. is_in_loop_at lines j i) (range_with_len 0 i) (λ j.
     and-last (is_a lines j sorts.Loop) (encloses lines j i) (not (lies_between lines sorts.Scope j i)) ∙ ap (λ b. (is_a lines j sorts.Loop && not b) && encloses lines j i) (inside-open lines sorts.Scope i j))
 
-behind-open : (lines : List LineFacts) (i m : ℕ) → some_below i (λ k. nat_lt m k && encloses lines k i) ≡ has_behind (open_at lines i) m
+pub behind-open : (lines : List LineFacts) (i m : ℕ) → some_below i (λ k. nat_lt m k && encloses lines k i) ≡ has_behind (open_at lines i) m
 behind-open lines i m =
     any-through (λ k. encloses lines k i) (λ k. nat_lt m k) (λ k. nat_lt m k && encloses lines k i) (range_with_len 0 i) (λ k. refl)
-
-pub match-open : (lines : List LineFacts) (i : ℕ) → is_in_match lines i ≡ opens_match lines (open_at lines i)
-match-open lines i =
-    any-through (λ j. encloses lines j i) (λ j. is_match_open lines (open_at lines i) j) (λ j. is_a lines j sorts.Match && is_around lines j i) (range_with_len 0 i) (λ j.
-    and-assoc (is_a lines j sorts.Match) (encloses lines j i) (not (some_below i (λ k. nat_lt j k && encloses lines k i)))
-    ∙ (and-last (is_a lines j sorts.Match) (encloses lines j i) (not (some_below i (λ k. nat_lt j k && encloses lines k i)))
-    ∙ ap (λ b. (is_a lines j sorts.Match && not b) && encloses lines j i) (behind-open lines i j)))
 
 -- ---- from a line to the next
 
@@ -106,20 +114,20 @@ range-last a (suc n) =
     let e : (a + 1) + n ≡ a + suc n = omega arith in
     ap (λ xs. a ∷ xs) (range-last (a + 1) n ∙ ap (λ x. range_with_len (a + 1) n ++ x ∷ []) e)
 
-range-more : (n : ℕ) → range_with_len 0 (n + 1) ≡ range_with_len 0 n ++ n ∷ []
+pub range-more : (n : ℕ) → range_with_len 0 (n + 1) ≡ range_with_len 0 n ++ n ∷ []
 range-more n =
     let e : n + 1 ≡ suc n = omega arith in
     let z : 0 + n ≡ n = omega arith in
     ap (λ m. range_with_len 0 m) e ∙ (range-last 0 n ∙ ap (λ x. range_with_len 0 n ++ x ∷ []) z)
 
-filter-same : (f g : ℕ → Bool) (a n : ℕ) → ((k : ℕ) → k < a + n → f k ≡ g k) → filter f (range_with_len a n) ≡ filter g (range_with_len a n)
+pub filter-same : (f g : ℕ → Bool) (a n : ℕ) → ((k : ℕ) → k < a + n → f k ≡ g k) → filter f (range_with_len a n) ≡ filter g (range_with_len a n)
 filter-same f g a zero h = refl
 filter-same f g a (suc n) h =
     let here : f a ≡ g a = h a (omega arith) in
     let rest : filter f (range_with_len (a + 1) n) ≡ filter g (range_with_len (a + 1) n) = filter-same f g (a + 1) n (λ k lt. h k (omega arith)) in
     rw (here, rest) refl
 
-filter-twice : (e c : ℕ → Bool) (xs : List ℕ) → filter c (filter e xs) ≡ filter (λ x. e x && c x) xs
+pub filter-twice : (e c : ℕ → Bool) (xs : List ℕ) → filter c (filter e xs) ≡ filter (λ x. e x && c x) xs
 filter-twice e c [] = refl
 filter-twice e c (x ∷ xs) = go (e x) refl (filter-twice e c xs)
   where
@@ -127,24 +135,24 @@ filter-twice e c (x ∷ xs) = go (e x) refl (filter-twice e c xs)
     go true i k = rw (i, k) refl
     go false i k = rw (i, k) refl
 
-all-range : (p : ℕ → Bool) (a n : ℕ) → ((k : ℕ) → k < a + n → p k ≡ true) → list_all p (range_with_len a n) ≡ true
+pub all-range : (p : ℕ → Bool) (a n : ℕ) → ((k : ℕ) → k < a + n → p k ≡ true) → list_all p (range_with_len a n) ≡ true
 all-range p a zero h = refl
 all-range p a (suc n) h =
     let here : p a ≡ true = h a (omega arith) in
     let rest : list_all p (range_with_len (a + 1) n) ≡ true = all-range p (a + 1) n (λ k lt. h k (omega arith)) in
     rw (here, rest) refl
 
-all-last : (p : ℕ → Bool) (xs : List ℕ) (x : ℕ) → list_all p (xs ++ x ∷ []) ≡ (list_all p xs && p x)
+pub all-last : (p : ℕ → Bool) (xs : List ℕ) (x : ℕ) → list_all p (xs ++ x ∷ []) ≡ (list_all p xs && p x)
 all-last p [] x = and-true (p x)
 all-last p (y ∷ xs) x = ap (λ b. p y && b) (all-last p xs x) ∙ and-assoc (p y) (list_all p xs) (p x)
 
-false_le : (a b : ℕ) → b < a → nat_le a b ≡ false
+pub false_le : (a b : ℕ) → b < a → nat_le a b ≡ false
 false_le a b h = lt-leb a b h
 
-true_le : (a b : ℕ) → a ≤ b → nat_le a b ≡ true
+pub true_le : (a b : ℕ) → a ≤ b → nat_le a b ≡ true
 true_le a b h = le-leb a b h
 
-one-same : (f g : ℕ → Bool) (x : ℕ) → f x ≡ g x → filter f (x ∷ []) ≡ filter g (x ∷ [])
+pub one-same : (f g : ℕ → Bool) (x : ℕ) → f x ≡ g x → filter f (x ∷ []) ≡ filter g (x ∷ [])
 one-same f g x h = rw h refl
 
 -- the line directly before opens a block for a deeper one

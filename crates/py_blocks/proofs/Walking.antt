@@ -1,5 +1,5 @@
 -- How the searches of a tree go on from part to part.
-use Rattle.std.proofs.Common.{◌≡◌, ℕ, zero, suc, ◌+◌, ◌-◌, ◌<◌, ◌≤◌, nat_eq, ltb, Bool, true, false, ◌&&◌, ◌||◌, List, [], ◌∷◌, ◌++◌, length, drop, get_or, Option, Some, None, refl, sym, ◌∙◌, ap, arith, slice_get, append_assoc, append-nil, if◌then◌else◌}
+use Rattle.std.proofs.Common.{◌≡◌, ℕ, suc, ◌+◌, ◌-◌, ◌<◌, ◌≤◌, nat_eq, ltb, Bool, true, false, ◌&&◌, ◌||◌, List, [], ◌∷◌, ◌++◌, length, drop, get_or, Option, Some, None, refl, sym, ◌∙◌, ap, arith, slice_get, append_assoc, append-nil, if◌then◌else◌}
 use Rattle.std.proofs.lemmas.Bool.{ne_eqb, lt-ltb}
 use Rattle.std.proofs.lemmas.Option.{get_or_from_slice_get}
 use Rattle.py_base.specs.declared.ids.NameId.{NameId}
@@ -8,11 +8,11 @@ use Rattle.py_base.specs.declared.node.Word.TheVariants as words
 use Rattle.py_base.specs.declared.ids.NodeId.{NodeId}
 use Rattle.py_base.specs.declared.node.NodeKind.{NodeKind}
 use Rattle.py_base.specs.declared.span.Span.{Span}
-use Rattle.py_base.specs.Tree.{Said, said, SyntaxTree, SyntaxTrees, node, no_parts, with_part, tree_at, parts_at}
+use Rattle.py_base.specs.Tree.{Said, said, SyntaxTree, SyntaxTrees, node, with_part, tree_at, parts_at}
 use Rattle.py_blocks.specs.declared.role.Role.{Role}
 use Rattle.py_blocks.specs.declared.walk.Sought.{Sought}
 use Rattle.py_blocks.specs.Roles.{found, finds, is_name, is_none, role_of_part, names_in, names_of_parts}
-use Rattle.py_blocks.specs.Facts.{is_word, has, have, is_empty_suite, ends_in_colon, is_lone, has_three, is_star, default_of, with_default, defaults, are_ordered, are_alike, are_distinct, captures, capture_alike, node_fits, tree_fits, trees_fit}
+use Rattle.py_blocks.specs.Facts.{is_word, has, have, is_empty_suite, ends_in_colon, is_lone, has_three, is_star, default_of, with_default, defaults, are_alike, are_distinct, captures, capture_alike, node_fits, tree_fits, trees_fit}
 use Rattle.py_blocks.specs.Ordered.{seen_after, ordered_after}
 use Rattle.py_blocks.proofs.Reading.{parts_at-drop, parts_at-end, is_none-drop}
 

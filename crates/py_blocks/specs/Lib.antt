@@ -6,3 +6,6 @@ pub mod Blocks
 pub mod Names
 pub mod Faults
 pub mod Shortcuts
+pub mod Links
+pub mod Kept
+pub mod NameSets

@@ -1,6 +1,6 @@
 -- Which lines break a rule on the names of defs: a nonlocal name is bound in a def around, and neither a nonlocal nor a global name is a
 -- parameter (Python 3.12 language reference, 7.12 and 7.13, "The global statement" and "The nonlocal statement").
-use Rattle.std.specs.Prelude.{ℕ, ◌==◌, nat_lt, Bool, true, false, not, ◌&&◌, ◌||◌, List, length, if◌then◌else◌}
+use Rattle.std.specs.Prelude.{ℕ, ◌==◌, Bool, not, ◌&&◌, ◌||◌, List, length, if◌then◌else◌}
 use Rattle.std.specs.List.{list_any}
 use Rattle.py_blocks.specs.declared.facts.LineFacts.{LineFacts}
 use Rattle.py_blocks.specs.declared.sort.Sort.TheVariants as sorts

@@ -1,6 +1,6 @@
 -- Which names a statement binds, and in which places of its tree: each place has a role, which says what a name there does
 -- (Python 3.12 language reference, 4.2.1, "Binding of names", 8.6.4, "Patterns", and 7.12 and 7.13, "global" and "nonlocal").
-use Rattle.std.specs.Prelude.{ℕ, ◌+◌, ◌==◌, Bool, true, false, not, ◌&&◌, List, [], ◌∷◌, ◌++◌, bytes_eq, if◌then◌else◌}
+use Rattle.std.specs.Prelude.{ℕ, ◌+◌, ◌==◌, Bool, true, false, not, List, [], ◌∷◌, ◌++◌, bytes_eq, if◌then◌else◌}
 use Rattle.py_base.specs.declared.node.NodeKind.{NodeKind}
 use Rattle.py_base.specs.declared.node.NodeKind.TheVariants as kinds
 use Rattle.py_base.specs.Tree.{Said, name, SyntaxTree, SyntaxTrees, node, no_parts, with_part}

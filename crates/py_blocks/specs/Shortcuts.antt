@@ -1,10 +1,9 @@
 -- Tests on all lines at once: whether a rule need be looked at, and whether each tree is there (Python 3.12 language reference, 8.6, "The match
 -- statement").
-use Rattle.std.specs.Prelude.{ℕ, nat_lt, Bool, true, not, ◌&&◌, count_by, Option, Some, None, List}
+use Rattle.std.specs.Prelude.{ℕ, nat_lt, Bool, true, count_by, Option, Some, None, List}
 use Rattle.py_base.specs.declared.ids.NodeId.{NodeId}
 use Rattle.std.specs.List.{list_any, filter, range_with_len}
 use Rattle.py_blocks.specs.declared.facts.LineFacts.{LineFacts}
-use Rattle.py_blocks.specs.declared.sort.Sort.TheVariants as sorts
 use Rattle.py_blocks.specs.Blocks.{is_a, encloses}
 use Rattle.py_blocks.specs.declared.sort.Sort.{Sort}
 
@@ -23,23 +22,3 @@ opens_one lines s open_blocks = list_any (λ j. is_a lines j s) open_blocks
 
 abbrev pub count_open : List LineFacts → Sort → List ℕ → ℕ
 count_open lines s open_blocks = count_by (λ j. is_a lines j s) open_blocks
-
--- behind the line j an open block is of this sort
-abbrev pub opens_inside : List LineFacts → Sort → List ℕ → ℕ → Bool
-opens_inside lines s open_blocks j = list_any (λ k. nat_lt j k && is_a lines k s) open_blocks
-
-abbrev pub is_loop_open : List LineFacts → List ℕ → ℕ → Bool
-is_loop_open lines open_blocks j = is_a lines j sorts.Loop && not (opens_inside lines sorts.Scope open_blocks j)
-
-abbrev pub opens_loop : List LineFacts → List ℕ → Bool
-opens_loop lines open_blocks = list_any (λ j. is_loop_open lines open_blocks j) open_blocks
-
-abbrev pub has_behind : List ℕ → ℕ → Bool
-has_behind open_blocks j = list_any (λ k. nat_lt j k) open_blocks
-
-abbrev pub is_match_open : List LineFacts → List ℕ → ℕ → Bool
-is_match_open lines open_blocks m = is_a lines m sorts.Match && not (has_behind open_blocks m)
-
--- the innermost open block is a `match`
-abbrev pub opens_match : List LineFacts → List ℕ → Bool
-opens_match lines open_blocks = list_any (λ m. is_match_open lines open_blocks m) open_blocks

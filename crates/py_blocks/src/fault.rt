@@ -1,6 +1,8 @@
 //! Lines as they come, and what is told of the first faulty one.
+ghost use Rattle.std.specs.Prelude.{◌≡◌};
+ghost use Rattle.py_blocks.specs.Faults.{fault_with};
 
-use py_base::NodeId;
+use py_base::{NodeId, NodeKind};
 use py_tokens::TokenFault;
 
 /// A logical line of a text.
@@ -31,4 +33,19 @@ pub enum LineFaultKind {
 pub struct FaultyLine {
     pub line: usize,
     pub kind: LineFaultKind,
+}
+
+/// What is told of a line with this token fault, this kind of tree, and this answer of the rules.
+pub fn fault_with(
+    fault: Option<TokenFault>,
+    kind: Option<NodeKind>,
+    broken: bool,
+) -> Option<LineFaultKind>
+    ensures { result ≡ fault_with fault kind broken }
+{
+    match (fault, kind) {
+        (Some(fault), _) => Some(LineFaultKind::Token(fault)),
+        (None, None) => Some(LineFaultKind::NotValid),
+        (None, Some(_)) => broken.then_some(LineFaultKind::Block),
+    }
 }

@@ -8,29 +8,41 @@
 //! that it begins, and the names of its tree, which `role` and `names` find by the role of each
 //! place. `specs/Blocks.antt` has the rules on columns, headers and words, `specs/Names.antt` those
 //! on global and nonlocal names, and `specs/Facts.antt` those within a line, on parameters and
-//! captures. `open_blocks` keeps the open blocks from line to line, and `rules` asks them; `nesting` and
-//! `scopes` search all lines for what else a rule asks, which comes at clauses, `try`, `match`, cases and
-//! `nonlocal` alone. `first` goes through the lines.
+//! captures.
+//!
+//! `links` says what each line is to the lines before it, `answers` which lines have one behind them
+//! that a rule asks for, and `name_sets` which names each def has, each by one pass over the lines, with
+//! a stack of open blocks or a set. `rules`, `neighbours` and `scopes` judge a line by them, and `first`
+//! goes through the lines. So the time grows with the lines times the depth of their blocks, and for
+//! names with the logarithm of their number. `plain` is the slow program beside it, which searches all
+//! lines as the definitions do.
 //!
 //! Below stand `py_base` (trees) and `py_tokens` (faults of tokens).
 #![tactic(auto)]
 
+mod answers;
 mod facts;
 mod fault;
 mod first;
 mod fits;
+mod lines;
+mod links;
+mod name_sets;
 mod names;
-mod nesting;
+mod neighbours;
 mod open_blocks;
+mod plain;
 mod role;
 mod rules;
 mod scopes;
 mod sort;
+mod tables;
 mod walk;
 
 pub use facts::are_nodes;
 pub use fault::{BlockLine, FaultyLine, LineFaultKind};
 pub use first::first_fault;
+pub use plain::plain_fault;
 
 #[cfg(test)]
 mod tests;

@@ -1,11 +1,12 @@
 //! The open blocks at a line, as a stack of the lines that opened them.
-ghost use Rattle.std.specs.Prelude.{◌≡◌, ◌<◌, ◌+◌, ◌&&◌, nat_lt, length, IfOk};
+ghost use Rattle.std.specs.Prelude.{◌≡◌, ◌<◌, ◌+◌, nat_lt, length, IfOk};
 ghost use Rattle.std.specs.List.{filter};
 ghost use Rattle.py_blocks.specs.Blocks.{column_at, is_a};
-ghost use Rattle.py_blocks.specs.Shortcuts.{open_at, opens_one, count_open, opens_inside, is_loop_open, opens_loop, has_behind, is_match_open, opens_match};
+ghost use Rattle.py_blocks.specs.Shortcuts.{open_at, opens_one, count_open};
+ghost use Rattle.py_blocks.specs.Kept.{is_behind, is_loop_for, opens_loop_for};
 
 use crate::facts::LineFacts;
-use crate::nesting::{column_at, is_a};
+use crate::lines::{column_at, is_a};
 use crate::sort::Sort;
 use py_base::NoMemory;
 use std::alloc::Global;
@@ -27,55 +28,27 @@ pub fn count_open(lines: &[LineFacts], sort: Sort, blocks: &[usize]) -> usize
         .count()
 }
 
-fn is_inside(lines: &[LineFacts], sort: Sort, outer: usize, inner: usize) -> bool
-    ensures { result ≡ (nat_lt outer inner && is_a lines.now inner sort) }
+/// Whether there is a def or class, and it stands behind a line.
+pub fn is_behind(scope: Option<usize>, outer: usize) -> bool
+    ensures { result ≡ is_behind scope outer }
 {
-    outer < inner && is_a(lines, inner, sort)
+    match scope {
+        Some(scope) => outer < scope,
+        None => false,
+    }
 }
 
-// Whether an open block behind a line is of a sort.
-fn opens_inside(lines: &[LineFacts], sort: Sort, blocks: &[usize], outer: usize) -> bool
-    ensures { result ≡ opens_inside lines.now sort blocks.now outer }
+fn is_loop_for(lines: &[LineFacts], scope: Option<usize>, outer: usize) -> bool
+    ensures { result ≡ is_loop_for lines.now scope outer }
 {
-    blocks
-        .iter()
-        .any(|inner| is_inside(lines, sort, outer, *inner))
+    is_a(lines, outer, Sort::Loop) && !is_behind(scope, outer)
 }
 
-fn is_loop_open(lines: &[LineFacts], blocks: &[usize], outer: usize) -> bool
-    ensures { result ≡ is_loop_open lines.now blocks.now outer }
+/// Whether a loop is open, and in it no def or class. `scope` is the innermost def or class.
+pub fn opens_loop(lines: &[LineFacts], scope: Option<usize>, blocks: &[usize]) -> bool
+    ensures { result ≡ opens_loop_for lines.now scope blocks.now }
 {
-    is_a(lines, outer, Sort::Loop) && !opens_inside(lines, Sort::Scope, blocks, outer)
-}
-
-/// Whether a loop is open, and in it no def or class.
-pub fn opens_loop(lines: &[LineFacts], blocks: &[usize]) -> bool
-    ensures { result ≡ opens_loop lines.now blocks.now }
-{
-    blocks
-        .iter()
-        .any(|outer| is_loop_open(lines, blocks, *outer))
-}
-
-fn has_behind(blocks: &[usize], outer: usize) -> bool
-    ensures { result ≡ has_behind blocks.now outer }
-{
-    blocks.iter().any(|inner| outer < *inner)
-}
-
-fn is_match_open(lines: &[LineFacts], blocks: &[usize], outer: usize) -> bool
-    ensures { result ≡ is_match_open lines.now blocks.now outer }
-{
-    is_a(lines, outer, Sort::Match) && !has_behind(blocks, outer)
-}
-
-/// Whether the innermost open block is a `match`.
-pub fn opens_match(lines: &[LineFacts], blocks: &[usize]) -> bool
-    ensures { result ≡ opens_match lines.now blocks.now }
-{
-    blocks
-        .iter()
-        .any(|outer| is_match_open(lines, blocks, *outer))
+    blocks.iter().any(|outer| is_loop_for(lines, scope, *outer))
 }
 
 fn is_left_of(lines: &[LineFacts], outer: usize, column: u32) -> bool
@@ -84,8 +57,9 @@ fn is_left_of(lines: &[LineFacts], outer: usize, column: u32) -> bool
     column_at(lines, outer) < column
 }
 
-// Those of the open blocks that a line of this column stands in.
-fn still_open(
+/// Those of the open blocks that a line of this column stands in. `NoMemory` where they could not be
+/// stored.
+pub fn still_open(
     alloc: Global,
     lines: &[LineFacts],
     blocks: &[usize],

@@ -1,168 +1,249 @@
-//! The rules on the names of defs, each by a search through all lines.
-ghost use Rattle.std.specs.Prelude.{◌≡◌, ◌||◌, not, length};
+//! The rules on the names of defs, by the names of all defs and classes and the open blocks at a line.
+ghost use Rattle.std.specs.Prelude.{◌≡◌, ◌<◌, ◌&&◌, ◌||◌, not, length};
 ghost use Rattle.std.specs.List.{list_any};
 ghost use Rattle.py_blocks.specs.Facts.{among};
-ghost use Rattle.py_blocks.specs.Blocks.{line_at};
-ghost use Rattle.py_blocks.specs.Names.{is_body_of, is_outside, binds_at, binds_in, declares_at, declares_in, owns, is_owned_around, is_nonlocal_astray, is_parameter_at, is_parameter_around, declares_parameter, breaks_names};
+ghost use Rattle.py_blocks.specs.Blocks.{line_at, is_a};
+ghost use Rattle.py_blocks.specs.Links.{links_of};
+ghost use Rattle.py_blocks.specs.Shortcuts.{open_at};
+ghost use Rattle.py_blocks.specs.Names.{binds_at, binds_in, declares_in, is_owned_around, is_nonlocal_astray, is_parameter_around, declares_parameter, breaks_names};
 ghost use Rattle.py_blocks.specs.Search.{some_below};
+ghost use Rattle.py_blocks.specs.NameSets.{AreNameSets, lies_outside, owns_open};
+ghost use Rattle.py_blocks.specs.declared.sort.Sort.TheVariants as sorts;
 
 use crate::facts::LineFacts;
-use crate::fits::is_among;
-use crate::nesting::{encloses_as, is_a, is_innermost, lies_between};
+use crate::lines::is_a;
+use crate::links::{Link, scope_in};
+use crate::name_sets::{NameSets, body_in, has_name};
+use crate::open_blocks::is_behind;
 use crate::sort::Sort;
 use py_base::Text;
 
-// Whether the statements of a line stand in the body of a def or class.
-fn is_body_of(lines: &[LineFacts], scope: usize, at: usize) -> bool
-    ensures { result ≡ is_body_of lines.now scope at }
+fn is_own_parameter<'a>(
+    lines: &'a [LineFacts],
+    names: &NameSets<'a>,
+    name: &'a str,
+    def: usize,
+) -> bool
+    requires { AreNameSets lines.now names.now }
+    ensures { result ≡ among name.now (line_at lines.now def).parameters }
 {
-    if is_a(lines, at, Sort::Scope) {
-        scope == at
-    } else {
-        is_innermost(lines, Sort::Scope, scope, at)
-    }
+    let _count = lines.len();
+    has_name(&names.parameters, name, def)
 }
 
-fn is_outside(lines: &[LineFacts], def: usize, at: usize) -> bool
-    ensures { result ≡ is_outside lines.now def at }
+fn is_bound_in_line<'a>(
+    lines: &'a [LineFacts],
+    names: &NameSets<'a>,
+    name: &'a str,
+    def: usize,
+) -> bool
+    requires { AreNameSets lines.now names.now }
+    ensures { result ≡ among name.now (line_at lines.now def).suite }
 {
-    encloses_as(lines, Sort::Def, def, at)
-        && (is_a(lines, at, Sort::Scope) || lies_between(lines, Sort::Scope, def, at))
+    let _count = lines.len();
+    has_name(&names.suites, name, def)
 }
 
-fn is_bound_at(lines: &[LineFacts], name: &str, at: usize) -> bool
-    ensures { result ≡ among name.now (line_at lines.now at).bound }
-{
-    match lines.get(at) {
-        Some(line) => is_among(name, line.bound.as_slice()),
-        None => false,
-    }
-}
-
-fn is_declared_at(lines: &[LineFacts], name: &str, at: usize) -> bool
-    ensures { result ≡ among name.now (line_at lines.now at).declared }
-{
-    match lines.get(at) {
-        Some(line) => is_among(name, line.declared.as_slice()),
-        None => false,
-    }
-}
-
-fn is_own_parameter(lines: &[LineFacts], name: &str, at: usize) -> bool
-    ensures { result ≡ among name.now (line_at lines.now at).parameters }
-{
-    match lines.get(at) {
-        Some(line) => is_among(name, line.parameters.as_slice()),
-        None => false,
-    }
-}
-
-fn is_bound_in_line(lines: &[LineFacts], name: &str, at: usize) -> bool
-    ensures { result ≡ among name.now (line_at lines.now at).suite }
-{
-    match lines.get(at) {
-        Some(line) => is_among(name, line.suite.as_slice()),
-        None => false,
-    }
-}
-
-fn binds_at(lines: &[LineFacts], name: &str, def: usize, at: usize) -> bool
-    ensures { result ≡ binds_at lines.now name.now def at }
-{
-    is_bound_at(lines, name, at) && is_innermost(lines, Sort::Scope, def, at)
-}
-
-fn is_bound_inside(lines: &[LineFacts], name: &str, def: usize) -> bool
+fn is_bound_inside<'a>(
+    lines: &'a [LineFacts],
+    names: &NameSets<'a>,
+    name: &'a str,
+    def: usize,
+) -> bool
+    requires { AreNameSets lines.now names.now }
     ensures { result ≡ some_below (length lines.now) (λ i. binds_at lines.now name.now def i) }
 {
-    (0..lines.len()).any(|at| binds_at(lines, name, def, at))
+    let _count = lines.len();
+    has_name(&names.bound, name, def)
 }
 
-fn binds_in(lines: &[LineFacts], name: &str, def: usize) -> bool
+fn binds_in<'a>(lines: &'a [LineFacts], names: &NameSets<'a>, name: &'a str, def: usize) -> bool
+    requires { AreNameSets lines.now names.now }
     ensures { result ≡ binds_in lines.now name.now def }
 {
-    is_own_parameter(lines, name, def)
-        || is_bound_in_line(lines, name, def)
-        || is_bound_inside(lines, name, def)
+    is_own_parameter(lines, names, name, def)
+        || is_bound_in_line(lines, names, name, def)
+        || is_bound_inside(lines, names, name, def)
 }
 
-fn declares_at(lines: &[LineFacts], name: &str, def: usize, at: usize) -> bool
-    ensures { result ≡ declares_at lines.now name.now def at }
-{
-    is_declared_at(lines, name, at) && is_body_of(lines, def, at)
-}
-
-fn declares_in(lines: &[LineFacts], name: &str, def: usize) -> bool
+fn declares_in<'a>(lines: &'a [LineFacts], names: &NameSets<'a>, name: &'a str, def: usize) -> bool
+    requires { AreNameSets lines.now names.now }
     ensures { result ≡ declares_in lines.now name.now def }
 {
-    (0..lines.len()).any(|at| declares_at(lines, name, def, at))
+    let _count = lines.len();
+    has_name(&names.declared, name, def)
 }
 
-fn owns(lines: &[LineFacts], name: &str, at: usize, def: usize) -> bool
-    ensures { result ≡ owns lines.now name.now at def }
+// Whether an open block is a def around the def or class in whose body the statements of a line stand.
+fn lies_outside(lines: &[LineFacts], scope: Option<usize>, at: usize, def: usize) -> bool
+    ensures { result ≡ lies_outside lines.now scope at def }
 {
-    is_outside(lines, def, at) && binds_in(lines, name, def) && !declares_in(lines, name, def)
+    is_a(lines, def, Sort::Def) && (is_a(lines, at, Sort::Scope) || is_behind(scope, def))
 }
 
-fn is_owned_around(lines: &[LineFacts], at: usize, name: &str) -> bool
+fn owns_open<'a>(
+    lines: &'a [LineFacts],
+    names: &NameSets<'a>,
+    scope: Option<usize>,
+    at: usize,
+    name: &'a str,
+    def: usize,
+) -> bool
+    requires { AreNameSets lines.now names.now }
+    ensures { result ≡ owns_open lines.now scope name.now at def }
+{
+    lies_outside(lines, scope, at, def)
+        && binds_in(lines, names, name, def)
+        && !declares_in(lines, names, name, def)
+}
+
+// Whether some open block has the name as its own.
+fn is_owned_by_one<'a>(
+    lines: &'a [LineFacts],
+    names: &NameSets<'a>,
+    scope: Option<usize>,
+    blocks: &[usize],
+    at: usize,
+    name: &'a str,
+) -> bool
+    requires { AreNameSets lines.now names.now }
+    ensures { result ≡ list_any (λ d. owns_open lines.now scope name.now at d) blocks.now }
+{
+    for def in blocks {
+        if owns_open(lines, names, scope, at, name, *def) {
+            return true;
+        }
+    }
+    false
+}
+
+fn is_owned_around<'a>(
+    lines: &'a [LineFacts],
+    names: &NameSets<'a>,
+    links: &[Link],
+    blocks: &[usize],
+    at: usize,
+    name: &'a str,
+) -> bool
+    requires within { at < length lines.now }
+    requires links { links.now ≡ links_of lines.now }
+    requires names { AreNameSets lines.now names.now }
+    requires blocks { blocks.now ≡ open_at lines.now at }
     ensures { result ≡ is_owned_around lines.now at name.now }
 {
-    (0..at).any(|def| owns(lines, name, at, def))
+    is_owned_by_one(lines, names, scope_in(links, at), blocks, at, name)
 }
 
-fn is_unowned(lines: &[LineFacts], at: usize, name: &Text) -> bool
-    ensures { result ≡ not (is_owned_around lines.now at name.now) }
+fn is_any_unowned<'a>(
+    lines: &'a [LineFacts],
+    names: &NameSets<'a>,
+    links: &[Link],
+    blocks: &[usize],
+    at: usize,
+    nonlocals: &'a [Text],
+) -> bool
+    requires within { at < length lines.now }
+    requires links { links.now ≡ links_of lines.now }
+    requires names { AreNameSets lines.now names.now }
+    requires blocks { blocks.now ≡ open_at lines.now at }
+    ensures { result ≡ list_any (λ n. not (is_owned_around lines.now at n)) nonlocals.now }
 {
-    !is_owned_around(lines, at, name.as_str())
+    for name in nonlocals {
+        if !is_owned_around(lines, names, links, blocks, at, name.as_str()) {
+            return true;
+        }
+    }
+    false
 }
 
-fn is_any_unowned(lines: &[LineFacts], at: usize, names: &[Text]) -> bool
-    ensures { result ≡ list_any (λ n. not (is_owned_around lines.now at n)) names.now }
-{
-    names.iter().any(|name| is_unowned(lines, at, name))
-}
-
-fn is_nonlocal_astray(lines: &[LineFacts], at: usize) -> bool
+fn is_nonlocal_astray<'a>(
+    lines: &'a [LineFacts],
+    names: &NameSets<'a>,
+    links: &[Link],
+    blocks: &[usize],
+    at: usize,
+) -> bool
+    requires within { at < length lines.now }
+    requires links { links.now ≡ links_of lines.now }
+    requires names { AreNameSets lines.now names.now }
+    requires blocks { blocks.now ≡ open_at lines.now at }
     ensures { result ≡ is_nonlocal_astray lines.now at }
 {
     match lines.get(at) {
-        Some(line) => is_any_unowned(lines, at, line.nonlocals.as_slice()),
+        Some(line) => is_any_unowned(lines, names, links, blocks, at, line.nonlocals.as_slice()),
         None => false,
     }
 }
 
-fn is_parameter_at(lines: &[LineFacts], name: &str, at: usize, def: usize) -> bool
-    ensures { result ≡ is_parameter_at lines.now name.now at def }
-{
-    is_own_parameter(lines, name, def) && is_body_of(lines, def, at)
-}
-
-fn is_parameter_around(lines: &[LineFacts], at: usize, name: &Text) -> bool
+fn is_parameter_around<'a>(
+    lines: &'a [LineFacts],
+    links: &[Link],
+    names: &NameSets<'a>,
+    at: usize,
+    name: &'a Text,
+) -> bool
+    requires within { at < length lines.now }
+    requires links { links.now ≡ links_of lines.now }
+    requires names { AreNameSets lines.now names.now }
     ensures { result ≡ is_parameter_around lines.now at name.now }
 {
-    (0..lines.len()).any(|def| is_parameter_at(lines, name.as_str(), at, def))
+    match body_in(lines, links, at) {
+        Some(scope) => is_own_parameter(lines, names, name.as_str(), scope),
+        None => false,
+    }
 }
 
-fn is_any_parameter(lines: &[LineFacts], at: usize, names: &[Text]) -> bool
-    ensures { result ≡ list_any (λ n. is_parameter_around lines.now at n) names.now }
+fn is_any_parameter<'a>(
+    lines: &'a [LineFacts],
+    links: &[Link],
+    names: &NameSets<'a>,
+    at: usize,
+    declared: &'a [Text],
+) -> bool
+    requires within { at < length lines.now }
+    requires links { links.now ≡ links_of lines.now }
+    requires names { AreNameSets lines.now names.now }
+    ensures { result ≡ list_any (λ n. is_parameter_around lines.now at n) declared.now }
 {
-    names
-        .iter()
-        .any(|name| is_parameter_around(lines, at, name))
+    for name in declared {
+        if is_parameter_around(lines, links, names, at, name) {
+            return true;
+        }
+    }
+    false
 }
 
-fn declares_parameter(lines: &[LineFacts], at: usize) -> bool
+fn declares_parameter<'a>(
+    lines: &'a [LineFacts],
+    links: &[Link],
+    names: &NameSets<'a>,
+    at: usize,
+) -> bool
+    requires within { at < length lines.now }
+    requires links { links.now ≡ links_of lines.now }
+    requires names { AreNameSets lines.now names.now }
     ensures { result ≡ declares_parameter lines.now at }
 {
     match lines.get(at) {
-        Some(line) => is_any_parameter(lines, at, line.declared.as_slice()),
+        Some(line) => is_any_parameter(lines, links, names, at, line.declared.as_slice()),
         None => false,
     }
 }
 
-/// Whether a line breaks a rule on global and nonlocal names.
-pub fn breaks_names(lines: &[LineFacts], at: usize) -> bool
+/// Whether a line breaks a rule on global and nonlocal names. `blocks` are the open blocks at the line.
+pub fn breaks_names<'a>(
+    lines: &'a [LineFacts],
+    links: &[Link],
+    names: &NameSets<'a>,
+    blocks: &[usize],
+    at: usize,
+) -> bool
+    requires within { at < length lines.now }
+    requires links { links.now ≡ links_of lines.now }
+    requires names { AreNameSets lines.now names.now }
+    requires blocks { blocks.now ≡ open_at lines.now at }
     ensures { result ≡ breaks_names lines.now at }
 {
-    is_nonlocal_astray(lines, at) || declares_parameter(lines, at)
+    is_nonlocal_astray(lines, names, links, blocks, at)
+        || declares_parameter(lines, links, names, at)
 }

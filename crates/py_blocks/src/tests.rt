@@ -207,7 +207,11 @@ fn shown(alloc: Global, text: &str) -> Result<String, Fail> {
     if !are_nodes(&tree, lines.as_slice()) {
         return Ok(String::from_str(alloc, "no nodes")?);
     }
-    match first_fault(alloc, &tree, lines.as_slice())? {
+    let found = first_fault(alloc, &tree, lines.as_slice())?;
+    if plain_fault(alloc, &tree, lines.as_slice())? != found {
+        return Ok(String::from_str(alloc, "differs")?);
+    }
+    match found {
         Some(found) => Ok(format!(in alloc; "{} {}", found.line, kind_text(found.kind))?),
         None => Ok(String::from_str(alloc, "none")?),
     }
@@ -668,6 +672,169 @@ const NAMES: [(&str, &str); 38] = [
     ),
 ];
 
+const LINKS: [(&str, &str); 26] = [
+    (
+        "0 a Suite/0 If/2; 4 a; 0 Suite/0 Else/1; 4 a; 0 Suite/0 Finally/1; 4 a",
+        "4 Block",
+    ),
+    (
+        "0 x a Suite/0 For/3; 4 a; 0 Suite/0 Else/1; 4 a; 0 Suite/0 Finally/1; 4 a",
+        "4 Block",
+    ),
+    (
+        "0 Suite/0 Try/1; 4 Suite/0 Try/1; 8 a; 4 Suite/0 Finally/1; 8 a; 0 x Suite/0 Except/2; 4 a",
+        "none",
+    ),
+    (
+        "0 Suite/0 Try/1; 4 Suite/0 Try/1; 8 a; 4 Suite/0 Finally/1; 8 a; 0 a",
+        "0 Block",
+    ),
+    (
+        "0 Suite/0 Try/1; 4 a; 0 a; 0 Suite/0 Try/1; 4 a; 0 Suite/0 Finally/1; 4 a",
+        "0 Block",
+    ),
+    (
+        "0 Suite/0 Try/1; 4 a; 0 Suite/0 Except/1; 4 Suite/0 Try/1; 8 a; 4 x Suite/0 Except/2; 8 a",
+        "none",
+    ),
+    (
+        "0 Suite/0 Try/1; 4 a; 0 Suite/0 Except/1; 4 a; 0 Suite/0 Finally/1; 4 a",
+        "none",
+    ),
+    (
+        "0 Suite/0 Try/1; 4 a; 0 Suite/0 Except/1; 4 a; 0 Suite/0 Except/1; 4 a",
+        "2 Block",
+    ),
+    (
+        "0 Suite/0 Try/1; 4 a; 0 x Suite/0 Except/2; 4 a; 0 Suite/0 Except/1; 4 a; 0 x Suite/0 Except/2; 4 a",
+        "4 Block",
+    ),
+    (
+        "0 Suite/0 Try/1; 4 a; 0 x Suite/0 ExceptStar/2; 4 a; 0 Suite/0 Except/1; 4 a",
+        "4 Block",
+    ),
+    (
+        "0 a Suite/0 If/2; 4 a; 0 b Suite/0 Elif/2; 4 a; 0 b Suite/0 Elif/2; 4 a; 0 b Suite/0 Elif/2; 4 a; 0 Suite/0 Else/1; 4 a",
+        "none",
+    ),
+    (
+        "0 a Suite/0 If/2; 4 a Suite/0 If/2; 8 a; 4 Suite/0 Else/1; 8 a; 0 Suite/0 Else/1; 4 a",
+        "none",
+    ),
+    (
+        "0 a Suite/0 If/2; 4 a Suite/0 If/2; 8 a; 0 Suite/0 Else/1; 4 a; 0 Suite/0 Else/1; 4 a",
+        "5 Block",
+    ),
+    ("0 a Match/1; 4 a; 4 b Suite/0 Case/2; 8 a", "1 Block"),
+    (
+        "0 a Match/1; 4 a Suite/0 If/2; 8 b Suite/0 Case/2; 12 a",
+        "0 Block",
+    ),
+    (
+        "0 a Match/1; 4 b Suite/0 Case/2; 8 a Match/1; 12 b Suite/0 Case/2; 16 a",
+        "none",
+    ),
+    (
+        "0 a Match/1; 4 b Suite/0 Case/2; 8 a Match/1; 12 a",
+        "2 Block",
+    ),
+    (
+        "0 a Match/1; 4 b Suite/0 Case/2; 8 a Match/1; 12 b Suite/0 Case/2; 16 a; 4 b Suite/0 Case/2; 8 a",
+        "none",
+    ),
+    (
+        "0 a Match/1; 4 b Suite/0 Case/2; 8 a; 0 b Suite/0 Case/2; 4 a",
+        "3 Block",
+    ),
+    (
+        "0 a Suite/0 While/2; 4 A Suite/0 Class/2; 8 a Suite/0 While/2; 12 Break/0",
+        "none",
+    ),
+    (
+        "0 a Suite/0 While/2; 4 f Parameters/0 Suite/0 Def/3; 8 a; 4 Break/0",
+        "none",
+    ),
+    (
+        "0 a Suite/0 While/2; 4 f Parameters/0 Suite/0 Def/3; 8 a Suite/0 While/2; 12 a; 8 Break/0",
+        "4 Block",
+    ),
+    (
+        "0 Suite/0 Try/1; 4 a; 0 x Suite/0 Except/2; 4 Suite/0 Try/1; 8 a; 4 Suite/0 Finally/1; 8 a; 0 Suite/0 Else/1; 4 a; 0 Suite/0 Finally/1; 4 a",
+        "none",
+    ),
+    (
+        "0 Suite/0 Try/1; 4 a; 0 x Suite/0 ExceptStar/2; 4 a; 0 Suite/0 Else/1; 4 a; 0 Suite/0 Finally/1; 4 a",
+        "none",
+    ),
+    (
+        "0 Suite/0 Try/1; 4 a; 0 x Suite/0 Except/2; 4 a; 0 Suite/0 Else/1; 4 a; 0 Suite/0 Else/1; 4 a",
+        "6 Block",
+    ),
+    (
+        "0 Suite/0 Try/1; 4 a; 0 Suite/0 Finally/1; 4 a; 0 Suite/0 Finally/1; 4 a",
+        "4 Block",
+    ),
+];
+
+const OWNERS: [(&str, &str); 14] = [
+    (
+        "0 f Parameters/0 Suite/0 Def/3; 4 f Parameters/0 Suite/0 Def/3; 8 x Nonlocal/1; 4 x a Assign/2",
+        "none",
+    ),
+    (
+        "0 f Parameters/0 Suite/0 Def/3; 4 x a Assign/2; 0 f Parameters/0 Suite/0 Def/3; 4 f Parameters/0 Suite/0 Def/3; 8 x Nonlocal/1",
+        "4 Block",
+    ),
+    (
+        "0 f Parameters/0 Suite/0 Def/3; 4 x a Assign/2; 4 A Suite/0 Class/2; 8 f Parameters/0 Suite/0 Def/3; 12 x Nonlocal/1",
+        "none",
+    ),
+    (
+        "0 f Parameters/0 Suite/0 Def/3; 4 xy a Assign/2; 4 f Parameters/0 Suite/0 Def/3; 8 x Nonlocal/1",
+        "3 Block",
+    ),
+    (
+        "0 f Parameters/0 Suite/0 Def/3; 4 x a Assign/2; 4 f Parameters/0 Suite/0 Def/3; 8 x Nonlocal/1; 8 f Parameters/0 Suite/0 Def/3; 12 x Nonlocal/1",
+        "none",
+    ),
+    (
+        "0 f Parameters/0 Suite/0 Def/3; 4 x a Assign/2; 4 f Parameters/0 Suite/0 Def/3; 8 x Global/1; 8 f Parameters/0 Suite/0 Def/3; 12 x Nonlocal/1",
+        "none",
+    ),
+    (
+        "0 f x Parameters/1 Suite/0 Def/3; 4 A Suite/0 Class/2; 8 x Global/1",
+        "none",
+    ),
+    (
+        "0 f x Parameters/1 Suite/0 Def/3; 4 a Suite/0 If/2; 8 x Global/1",
+        "2 Block",
+    ),
+    (
+        "0 f Parameters/0 Suite/0 Def/3; 4 x a Assign/2; 4 A Suite/0 Class/2; 8 x Nonlocal/1",
+        "none",
+    ),
+    (
+        "0 A Suite/0 Class/2; 4 f Parameters/0 Suite/0 Def/3; 8 x a Assign/2; 4 f Parameters/0 Suite/0 Def/3; 8 x Nonlocal/1",
+        "4 Block",
+    ),
+    (
+        "0 f Parameters/0 Suite/0 Def/3; 4 x a Assign/2; 4 f Parameters/0 Suite/0 Def/3; 8 x y Nonlocal/2",
+        "3 Block",
+    ),
+    (
+        "0 f Parameters/0 Suite/0 Def/3; 4 f Parameters/0 Suite/0 Def/3; 8 x a Assign/2; 4 f Parameters/0 Suite/0 Def/3; 8 f Parameters/0 Suite/0 Def/3; 12 x Nonlocal/1",
+        "5 Block",
+    ),
+    (
+        "0 a Suite/0 If/2; 4 f Parameters/0 Suite/0 Def/3; 8 a Suite/0 If/2; 12 x a Assign/2; 8 f Parameters/0 Suite/0 Def/3; 12 a Suite/0 If/2; 16 x Nonlocal/1",
+        "none",
+    ),
+    (
+        "0 f x Parameters/1 Suite/0 Def/3; 4 a; 0 f Parameters/0 Suite/0 Def/3; 4 x Global/1",
+        "none",
+    ),
+];
+
 #[test]
 fn columns_clauses_cases_and_decorators(rt: HostRuntime) -> Result<(), Fail> {
     for (text, wanted) in &STRUCTURE {
@@ -695,6 +862,22 @@ fn parameters_and_captures(rt: HostRuntime) -> Result<(), Fail> {
 #[test]
 fn global_and_nonlocal_names(rt: HostRuntime) -> Result<(), Fail> {
     for (text, wanted) in &NAMES {
+        assert_eq!(rt; shown(rt.alloc(), text)?.as_str(), *wanted, "{text}");
+    }
+    Ok(())
+}
+
+#[test]
+fn clauses_and_cases_of_other_blocks(rt: HostRuntime) -> Result<(), Fail> {
+    for (text, wanted) in &LINKS {
+        assert_eq!(rt; shown(rt.alloc(), text)?.as_str(), *wanted, "{text}");
+    }
+    Ok(())
+}
+
+#[test]
+fn names_of_other_defs(rt: HostRuntime) -> Result<(), Fail> {
+    for (text, wanted) in &OWNERS {
         assert_eq!(rt; shown(rt.alloc(), text)?.as_str(), *wanted, "{text}");
     }
     Ok(())

@@ -1,4 +1,4 @@
-use Rattle.std.proofs.Common.{None, map, length, arith, refl}
+use Rattle.std.proofs.Common.{None, length, arith, refl}
 use Rattle.py_blocks.proofs.Rows.{node-at, rows-next, rows-end}
 use Rattle.py_blocks.proofs.facts.facts_of_lines.Goals as goal
 

@@ -1,7 +1,7 @@
-use Rattle.std.proofs.Common.{◌≡◌, ◌+◌, length, drop, sym, ap, ◌∙◌, arith}
+use Rattle.std.proofs.Common.{◌+◌, length, drop, sym, ap, ◌∙◌, arith}
 use Rattle.py_base.specs.Tree.{said, trees, parts_at}
 use Rattle.py_blocks.specs.Facts.{defaults, default_of}
-use Rattle.py_blocks.specs.Ordered.{ordered_after, seen_after}
+use Rattle.py_blocks.specs.Ordered.{ordered_after}
 use Rattle.py_blocks.proofs.Reading.{older-at, parts_at-end}
 use Rattle.py_blocks.proofs.Walking.{ordered-stop, ordered-next, ordered-bad, defaults-stop, defaults-more}
 use Rattle.py_blocks.proofs.fits.are_ordered.Goals as goal

@@ -1,4 +1,4 @@
-use Rattle.std.proofs.Common.{◌≡◌, ◌∙◌, sym, length, arith}
+use Rattle.std.proofs.Common.{◌∙◌, sym, length, arith}
 use Rattle.py_base.specs.Tree.{trees}
 use Rattle.py_blocks.proofs.Reading.{older-at}
 use Rattle.py_blocks.proofs.Walking.{alike-bad, alike-next, alike-end}

@@ -1,4 +1,4 @@
-use Rattle.std.proofs.Common.{◌≡◌, ◌<◌, ◌∙◌, sym, length, get_or, arith}
+use Rattle.std.proofs.Common.{◌<◌, ◌∙◌, sym, get_or, arith}
 use Rattle.py_base.specs.Tree.{AreOlder, said, trees}
 use Rattle.py_blocks.proofs.Reading.{older-at}
 use Rattle.py_blocks.proofs.Walking.{has-found, has-next, has-none}

@@ -1,47 +1,11 @@
-//! Where lines stand, by their columns.
-ghost use Rattle.std.specs.Prelude.{◌≡◌, ◌&&◌, nat_lt, length};
-ghost use Rattle.py_blocks.specs.Search.{some_below, each_below};
-ghost use Rattle.py_blocks.specs.Blocks.{line_at, column_at, is_a, stays_right_of, encloses, encloses_as, lies_between, is_around, is_innermost, is_before, previous, next};
+//! Where lines stand, each by a search through the lines between.
+ghost use Rattle.std.specs.Prelude.{◌≡◌, ◌&&◌, nat_lt};
+ghost use Rattle.py_blocks.specs.Search.{some_below, each_below, count_below};
+ghost use Rattle.py_blocks.specs.Blocks.{column_at, is_a, stays_right_of, encloses, encloses_as, stands_in, lies_between, is_around, is_innermost, is_before};
 
 use crate::facts::LineFacts;
-use crate::sort::{Sort, is_kind_of};
-
-/// The column of a line, and 0 where the lines end before it.
-pub fn column_at(lines: &[LineFacts], at: usize) -> u32
-    ensures { result ≡ column_at lines.now at }
-{
-    match lines.get(at) {
-        Some(line) => line.column,
-        None => 0,
-    }
-}
-
-/// Whether a line ends in the colon of its header.
-pub fn opens_at(lines: &[LineFacts], at: usize) -> bool
-    ensures { result ≡ (line_at lines.now at).opens }
-{
-    match lines.get(at) {
-        Some(line) => line.opens,
-        None => false,
-    }
-}
-
-/// Whether a line's header is of a sort.
-pub fn is_a(lines: &[LineFacts], at: usize, sort: Sort) -> bool
-    ensures { result ≡ is_a lines.now at sort }
-{
-    match lines.get(at) {
-        Some(line) => is_kind_of(line.kind, sort),
-        None => false,
-    }
-}
-
-/// Whether a line is not behind another, or stands to the right of it.
-pub fn stays_right_of(lines: &[LineFacts], outer: usize, at: usize) -> bool
-    ensures { result ≡ stays_right_of lines.now outer at }
-{
-    at <= outer || column_at(lines, outer) < column_at(lines, at)
-}
+use crate::lines::{column_at, is_a, stays_right_of};
+use crate::sort::Sort;
 
 // Whether all lines between stand to the right of a line.
 fn stay_right_of(lines: &[LineFacts], outer: usize, end: usize) -> bool
@@ -62,6 +26,22 @@ pub fn encloses_as(lines: &[LineFacts], sort: Sort, outer: usize, at: usize) -> 
     ensures { result ≡ encloses_as lines.now sort outer at }
 {
     is_a(lines, outer, sort) && encloses(lines, outer, at)
+}
+
+/// Whether a line stands in the block of one of a sort.
+pub fn stands_in(lines: &[LineFacts], sort: Sort, at: usize) -> bool
+    ensures { result ≡ stands_in lines.now sort at }
+{
+    (0..at).any(|outer| encloses_as(lines, sort, outer, at))
+}
+
+/// In how many blocks of lines of a sort a line stands.
+pub fn depth_in(lines: &[LineFacts], sort: Sort, at: usize) -> usize
+    ensures { result ≡ count_below at (λ j. encloses_as lines.now sort j at) }
+{
+    (0..at)
+        .filter(|outer| encloses_as(lines, sort, *outer, at))
+        .count()
 }
 
 fn is_one_between(lines: &[LineFacts], sort: Sort, outer: usize, inner: usize, at: usize) -> bool
