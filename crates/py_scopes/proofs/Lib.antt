@@ -1,2 +1,7 @@
+pub mod Below
+pub mod Classes
+pub mod Outward
+pub mod Passes
+pub mod Sets
 pub mod Walks
 pub mod Whole

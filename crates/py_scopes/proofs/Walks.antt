@@ -1,5 +1,5 @@
 -- Lemmas on loops over lists, item by item.
-use Rattle.std.proofs.Common.{◌≡◌, ℕ, suc, ◌+◌, ◌-◌, ◌<◌, ◌≤◌, List, [], ◌∷◌, ◌++◌, length, take, drop, get_or, map, refl, sym, ap, ◌∙◌, append_assoc, length-append, arith}
+use Rattle.std.proofs.Common.{◌≡◌, ℕ, zero, suc, ◌+◌, ◌-◌, ◌<◌, ◌≤◌, List, [], ◌∷◌, ◌++◌, length, take, drop, get_or, map, refl, sym, ap, ◌∙◌, append_assoc, length-append, arith}
 use Rattle.std.proofs.lemmas.List.{map-append}
 use Rattle.std.specs.Prelude.{Option, Some, None, slice_get, position, filter_map, fold, Bool, true, false}
 use Rattle.std.specs.Option.{option_to_list}
@@ -70,6 +70,10 @@ kept-next f xs i x e = ap (filter_map f) (take-next xs i x e) ∙ filter_map-app
 pub folded-next : {X Y B : Type 0} (g : B → Y → B) (b : B) (f : X → Option Y) (xs : List X) (i : ℕ) (x : X) → slice_get xs i ≡ Some x
     → fold g b (filter_map f (take (i + 1) xs)) ≡ fold g (fold g b (filter_map f (take i xs))) (option_to_list (f x))
 folded-next g b f xs i x e = ap (fold g b) (kept-next f xs i x e) ∙ fold-append g b (filter_map f (take i xs)) (option_to_list (f x))
+
+pub length-ids : (n : ℕ) → length (first_ids n) ≡ n
+length-ids zero = refl
+length-ids (suc n) = omega (arith, length-append (first_ids n) (record { 0 = n } ∷ []), length-ids n)
 
 -- one number more
 ids-next : (n : ℕ) → first_ids (n + 1) ≡ first_ids n ++ record { 0 = n } ∷ []

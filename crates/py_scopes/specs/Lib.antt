@@ -2,6 +2,8 @@ pub mod Kinds
 pub mod Members
 pub mod Occurrences
 pub mod Owner
+pub mod Same
 pub mod Scopes
 pub mod Table
+pub mod Tables
 pub mod Way

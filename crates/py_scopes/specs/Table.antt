@@ -1,10 +1,10 @@
 -- What the table of a module says: the owner of each name, and of each symbol its declaration and its bindings, and of each class its
 -- members (Python 3.12 language reference, 4.2.2 for owners; 7.2.2 for annotated assignments, 8.7 for annotated parameters).
-use Rattle.std.specs.Prelude.{◌≡◌, ◌<◌, ℕ, suc, ◌==◌, nat_lt, Bool, true, false, ◌&&◌, Option, Some, None, List, [], ◌∷◌, map, fold, filter_map, position, length, slice_get, if◌then◌else◌}
+use Rattle.std.specs.Prelude.{◌≡◌, ◌<◌, ℕ, suc, ◌==◌, nat_lt, Bool, true, false, ◌&&◌, Option, Some, None, List, [], ◌∷◌, map, fold, filter_map, position, length, slice_get, IfSome, if◌then◌else◌}
 use Rattle.py_base.specs.declared.ids.NodeId.{NodeId}
 use Rattle.py_base.specs.declared.ids.NameId.{NameId}
 use Rattle.py_base.specs.declared.ids.SymId.{SymId}
-use Rattle.py_base.specs.Tree.{Arena}
+use Rattle.py_base.specs.Tree.{Arena, AreOlder}
 use Rattle.py_scopes.specs.declared.scope.Symbol.{Symbol}
 use Rattle.py_scopes.specs.declared.occurrence.Role.{Role}
 use Rattle.py_scopes.specs.declared.occurrence.Role.TheVariants as roles
@@ -113,10 +113,13 @@ abbrev pub AreNumbered : ℕ → List (NameId × SymId) → Type 0
 AreNumbered n [] = Unit {0}
 AreNumbered n (m ∷ ms) = (m.1.0 < n) × AreNumbered n ms
 
--- WHAT HOLDS OF EACH TABLE: a declaration and bindings for each symbol, an owner and members for each node, no symbol beyond them
+-- WHAT HOLDS OF EACH TABLE: a declaration and bindings for each symbol, an owner and members for each node, no symbol and no node beyond
+-- them
 pub record IsWhole (t : ScopeTable) : Type 0 where
   pub declared : length t.declared ≡ length t.bound
   pub members : length t.members ≡ length t.owners
   pub room : length t.bound < 33554432
   pub owned : (i : ℕ) (o : Owner) → slice_get t.owners i ≡ Some o → IsNumbered (length t.bound) o
   pub held : (i : ℕ) (ms : List (NameId × SymId)) → slice_get t.members i ≡ Some ms → AreNumbered (length t.bound) ms
+  pub annotations : (i : ℕ) (d : Option NodeId) → slice_get t.declared i ≡ Some d → IfSome d (λ id. id.0 < length t.owners)
+  pub places : (i : ℕ) (ids : List NodeId) → slice_get t.bound i ≡ Some ids → AreOlder (length t.owners) ids

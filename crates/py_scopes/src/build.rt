@@ -1,14 +1,21 @@
-//! The making of the table of a module.
-ghost use Rattle.std.specs.Prelude.{◌≡◌, ◌<◌, map, length, IfOk, IfSome};
-ghost use Rattle.py_scopes.specs.Occurrences.{node_ids};
-ghost use Rattle.py_scopes.specs.Table.{number_of, owner_as, owner_by, owner_at, is_bound_at, annotation_at, earlier, earliest, declaration, bound_node, binding_at, bindings, is_member, members_from, table_of, IsTable};
+//! The making of the table of a module, in one pass over the nodes, the occurrences and the symbols for
+//! each of its lists.
+ghost use Rattle.std.specs.Prelude.{◌≡◌, ◌<◌, map, length, Some, slice_get, IfOk, OnOk, IfSome};
+ghost use Rattle.py_scopes.specs.Occurrences.{first_ids, node_ids, occurrences};
+ghost use Rattle.std.specs.List.{IsDistinct};
+ghost use Rattle.py_scopes.specs.Owner.{same_symbol};
+ghost use Rattle.py_scopes.specs.Members.{symbols};
+ghost use Rattle.py_scopes.specs.Table.{number_of, owner_by, owner_at, declaration, bindings, members_from, table_of, IsTable};
+ghost use Rattle.py_scopes.specs.Tables.{steps_outward, number_bound, PutsAt, AddsBinding, AddsAnnotation, AddsMember, no_items, no_annotation, earliest_to, node_of, AreBelow};
 
-use crate::members::{bound_symbol, symbols};
-use crate::occurrence::{Annotation, Occurrence, Role, occurrence_at, occurrences, push_some};
-use crate::owner::Owner;
-use crate::scope::{Symbol, is_class, is_same_graph, is_same_symbol};
-use crate::search::{owner_scopes, symbol_of};
+use crate::members::{Instances, bound_symbol, symbols};
+use crate::occurrence::{Annotation, Occurrence, occurrence_at, occurrences};
+use crate::owner::{Owner, owner_as};
+use crate::roles::{bound_node, earlier};
+use crate::scope::{Symbol, is_class, is_same_graph};
 use crate::table::Scopes;
+use crate::way::{Step, steps_outward};
+use indexmap::IndexSet;
 use py_base::{List, NameId, NoMemory, NodeId, SymId, Tree};
 use std::alloc::Global;
 
@@ -21,64 +28,55 @@ pub fn scopes(alloc: Global, tree: &Tree) -> Result<Scopes, NoMemory>
     ensures table { IfOk result (IsTable tree.now) }
     ensures owners { IfOk result (λ t. length t.owners ≡ length tree.now.nodes) }
 {
-    let all = occurrences(alloc, tree)?;
-    let numbers = symbols(alloc, all.as_slice())?;
-    table_of(alloc, tree, all.as_slice(), numbers.as_slice())
+    let outward = steps_outward(alloc, tree)?;
+    let all = occurrences(alloc, tree, outward.as_slice())?;
+    let instances = Instances::new(alloc, all)?;
+    let numbers = symbols(alloc, &instances)?;
+    table_of(alloc, tree, outward.as_slice(), &instances, &numbers)
 }
 
 // The table over all occurrences and the symbols by their numbers.
 fn table_of(
     alloc: Global,
     tree: &Tree,
-    all: &[Occurrence],
-    numbers: &[Symbol],
+    outward: &[Option<Step>],
+    instances: &Instances,
+    numbers: &IndexSet<Symbol>,
 ) -> Result<Scopes, NoMemory>
-    requires { length numbers.now < 33554432 }
-    ensures { IfOk result (λ t. t ≡ table_of tree.now all.now numbers.now) }
+    requires outward { outward.now ≡ steps_outward tree.now }
+    requires room { length numbers.now.keys < 33554432 }
+    requires below { AreBelow (length tree.now.nodes) instances.now }
+    ensures { IfOk result (λ t. t ≡ table_of tree.now instances.now numbers.now.keys) }
 {
     Ok(Scopes {
-        owners: owners(alloc, tree, all, numbers)?,
-        declared: declarations(alloc, all, numbers)?,
-        bound: all_bindings(alloc, all, numbers)?,
+        owners: owners(alloc, tree, outward, instances, numbers)?,
+        declared: declarations(alloc, instances, numbers)?,
+        bound: all_bindings(alloc, instances, numbers)?,
         members: all_members(alloc, tree, numbers)?,
     })
 }
 
 // The number of a symbol.
-fn number_of(numbers: &[Symbol], symbol: Symbol) -> Option<usize>
-    ensures value { result ≡ number_of numbers.now symbol }
-    ensures within { IfSome result (λ k. k < length numbers.now) }
+fn number_of(numbers: &IndexSet<Symbol>, symbol: Symbol) -> Option<usize>
+    ensures value { result ≡ number_of numbers.now.keys symbol }
+    ensures within { IfSome result (λ k. k < length numbers.now.keys) }
 {
-    numbers
-        .iter()
-        .position(|other| is_same_symbol(symbol, *other))
-}
-
-// The owner by the number of a symbol, whose scope runs in the graph of the use, or it doesn't.
-fn owner_as(is_local: bool, number: Option<usize>) -> Owner
-    requires { IfSome number (λ k. k < 33554432) }
-    ensures { result ≡ owner_as is_local number }
-{
-    match number {
-        Some(number) if is_local => Owner::Local(SymId(number as u32)),
-        Some(number) => Owner::Outer(SymId(number as u32)),
-        None => Owner::Undefined,
-    }
+    numbers.get_index_of(&symbol)
 }
 
 // The owner of a name whose symbol is this one.
 fn owner_by(
-    all: &[Occurrence],
-    numbers: &[Symbol],
+    instances: &Instances,
+    numbers: &IndexSet<Symbol>,
     occurrence: &Occurrence,
     symbol: Option<Symbol>,
 ) -> Owner
-    requires { length numbers.now < 33554432 }
-    ensures { result ≡ owner_by all.now numbers.now occurrence.now symbol }
+    requires { length numbers.now.keys < 33554432 }
+    ensures { result ≡ owner_by instances.now numbers.now.keys occurrence.now symbol }
 {
     match symbol {
         Some(symbol) => {
-            let scopes = owner_scopes(all, occurrence);
+            let scopes = instances.owner_scopes(occurrence);
             let is_local = is_same_graph(scopes, occurrence.scopes.as_slice());
             owner_as(is_local, number_of(numbers, symbol))
         }
@@ -90,17 +88,20 @@ fn owner_by(
 fn owner_at(
     alloc: Global,
     tree: &Tree,
-    all: &[Occurrence],
-    numbers: &[Symbol],
+    outward: &[Option<Step>],
+    instances: &Instances,
+    numbers: &IndexSet<Symbol>,
     id: NodeId,
 ) -> Result<Owner, NoMemory>
-    requires { length numbers.now < 33554432 }
-    ensures { IfOk result (λ owner. owner ≡ owner_at tree.now all.now numbers.now id) }
+    requires outward { outward.now ≡ steps_outward tree.now }
+    requires node { id.0 < length tree.now.nodes }
+    requires room { length numbers.now.keys < 33554432 }
+    ensures { IfOk result (λ owner. owner ≡ owner_at tree.now instances.now numbers.now.keys id) }
 {
-    match occurrence_at(alloc, tree, id)? {
+    match occurrence_at(alloc, tree, outward, id)? {
         Some(occurrence) => {
-            let symbol = symbol_of(all, &occurrence);
-            Ok(owner_by(all, numbers, &occurrence, symbol))
+            let symbol = instances.symbol_of(&occurrence);
+            Ok(owner_by(instances, numbers, &occurrence, symbol))
         }
         None => Ok(Owner::Undefined),
     }
@@ -109,161 +110,237 @@ fn owner_at(
 fn owners(
     alloc: Global,
     tree: &Tree,
-    all: &[Occurrence],
-    numbers: &[Symbol],
+    outward: &[Option<Step>],
+    instances: &Instances,
+    numbers: &IndexSet<Symbol>,
 ) -> Result<List<Owner>, NoMemory>
-    requires { length numbers.now < 33554432 }
-    ensures { IfOk result (λ owners. owners ≡ map (owner_at tree.now all.now numbers.now) (node_ids tree.now)) }
+    requires outward { outward.now ≡ steps_outward tree.now }
+    requires room { length numbers.now.keys < 33554432 }
+    ensures { IfOk result (λ owners. owners ≡ map (owner_at tree.now instances.now numbers.now.keys) (node_ids tree.now)) }
 {
     let mut owners = List::new(alloc);
     for number in 0..tree.node_count() {
-        owners.push(owner_at(alloc, tree, all, numbers, NodeId(number as u32))?)?;
+        let id = NodeId(number as u32);
+        owners.push(owner_at(alloc, tree, outward, instances, numbers, id)?)?;
     }
     Ok(owners)
 }
 
-// Whether it is the symbol that is bound at the occurrence.
-fn is_bound_at(all: &[Occurrence], symbol: Symbol, occurrence: &Occurrence) -> bool
-    ensures { result ≡ is_bound_at all.now symbol occurrence.now }
+// The number of the symbol that is bound at the occurrence.
+fn number_bound(
+    instances: &Instances,
+    numbers: &IndexSet<Symbol>,
+    occurrence: &Occurrence,
+) -> Option<usize>
+    ensures value { result ≡ number_bound instances.now numbers.now.keys occurrence.now }
+    ensures within { IfSome result (λ k. k < length numbers.now.keys) }
 {
-    match bound_symbol(all, occurrence) {
-        Some(other) => is_same_symbol(symbol, other),
-        None => false,
+    match bound_symbol(instances, occurrence) {
+        Some(symbol) => number_of(numbers, symbol),
+        None => None,
     }
 }
 
-fn annotation_at(all: &[Occurrence], symbol: Symbol, occurrence: &Occurrence) -> Option<Annotation>
-    ensures { result ≡ annotation_at all.now symbol occurrence.now }
+// The annotation that stands first in the text, of the one that did so far and another.
+fn earliest_to(so_far: Option<Annotation>, other: Annotation) -> Annotation
+    ensures { result ≡ earliest_to so_far other }
 {
-    if is_bound_at(all, symbol, occurrence) {
-        occurrence.annotation
-    } else {
-        None
+    match so_far {
+        Some(one) => earlier(one, other),
+        None => other,
     }
 }
 
-fn earlier(one: Annotation, other: Annotation) -> Annotation
-    ensures { result ≡ earlier one other }
-{
-    if other.from < one.from { other } else { one }
-}
-
-fn earliest(annotations: &[Annotation]) -> Option<NodeId>
-    ensures { result ≡ earliest annotations.now }
-{
-    let (first, others) = annotations.split_first()?;
-    let mut best = *first;
-    for other in others {
-        best = earlier(best, *other);
-    }
-    Some(best.node)
-}
-
-fn declaration(
-    alloc: Global,
-    all: &[Occurrence],
-    symbol: Symbol,
-) -> Result<Option<NodeId>, NoMemory>
-    ensures { IfOk result (λ node. node ≡ declaration all.now symbol) }
+fn no_annotations(alloc: Global, count: usize) -> Result<List<Option<Annotation>>, NoMemory>
+    requires { count < 33554432 }
+    ensures { IfOk result (λ annotations. annotations ≡ map no_annotation (first_ids count)) }
 {
     let mut annotations = List::new(alloc);
-    for occurrence in all {
-        push_some(&mut annotations, annotation_at(all, symbol, occurrence))?;
+    for _ in 0..count {
+        annotations.push(None)?;
     }
-    Ok(earliest(annotations.as_slice()))
+    Ok(annotations)
+}
+
+fn so_far(earliest: &[Option<Annotation>], number: usize) -> Option<Annotation>
+    requires { number < length earliest.now }
+    ensures { slice_get earliest.now number ≡ Some result }
+{
+    earliest[number]
+}
+
+// Adds the annotation of what is bound at an occurrence to what is known of its symbol.
+fn add_annotation(
+    instances: &Instances,
+    numbers: &IndexSet<Symbol>,
+    occurrence: &Occurrence,
+    earliest: &mut List<Option<Annotation>>,
+)
+    requires unique { IsDistinct same_symbol numbers.now.keys }
+    requires count { length earliest.old ≡ length numbers.now.keys }
+    ensures adds { AddsAnnotation instances.now numbers.now.keys occurrence.now earliest.old earliest.new }
+    ensures count { length earliest.new ≡ length earliest.old }
+{
+    let Some(annotation) = occurrence.annotation else {
+        return;
+    };
+    if let Some(number) = number_bound(instances, numbers, occurrence) {
+        let first = earliest_to(so_far(earliest.as_slice(), number), annotation);
+        earliest.set(number, Some(first));
+    }
+}
+
+// The annotation of each symbol that stands first in the text.
+fn annotations(
+    alloc: Global,
+    instances: &Instances,
+    numbers: &IndexSet<Symbol>,
+) -> Result<List<Option<Annotation>>, NoMemory>
+    requires { length numbers.now.keys < 33554432 }
+    ensures { IfOk result (λ earliest. map node_of earliest ≡ map (declaration instances.now) numbers.now.keys) }
+{
+    let mut earliest = no_annotations(alloc, numbers.len())?;
+    let all = instances.occurrences();
+    for occurrence in all {
+        add_annotation(instances, numbers, occurrence, &mut earliest);
+    }
+    Ok(earliest)
+}
+
+fn node_of(annotation: Option<Annotation>) -> Option<NodeId>
+    ensures { result ≡ node_of annotation }
+{
+    match annotation {
+        Some(annotation) => Some(annotation.node),
+        None => None,
+    }
 }
 
 fn declarations(
     alloc: Global,
-    all: &[Occurrence],
-    numbers: &[Symbol],
+    instances: &Instances,
+    numbers: &IndexSet<Symbol>,
 ) -> Result<List<Option<NodeId>>, NoMemory>
-    ensures { IfOk result (λ declared. declared ≡ map (declaration all.now) numbers.now) }
+    requires { length numbers.now.keys < 33554432 }
+    ensures { IfOk result (λ declared. declared ≡ map (declaration instances.now) numbers.now.keys) }
 {
+    let earliest = annotations(alloc, instances, numbers)?;
     let mut declared = List::new(alloc);
-    for symbol in numbers {
-        declared.push(declaration(alloc, all, *symbol)?)?;
+    for annotation in earliest.as_slice() {
+        declared.push(node_of(*annotation))?;
     }
     Ok(declared)
 }
 
-fn bound_node(node: NodeId, role: Role) -> NodeId
-    ensures { result ≡ bound_node node role }
+// As many empty lists as are told.
+fn no_bindings(alloc: Global, count: usize) -> Result<Vec<List<NodeId>>, NoMemory>
+    requires { count < 33554432 }
+    ensures { IfOk result (λ lists. lists.items ≡ map no_items (first_ids count)) }
 {
-    match role {
-        Role::Object(target, _) => target,
-        _ => node,
+    let mut lists = Vec::new(alloc);
+    for _ in 0..count {
+        lists.push(List::new(alloc))?;
     }
+    Ok(lists)
 }
 
-fn binding_at(all: &[Occurrence], symbol: Symbol, occurrence: &Occurrence) -> Option<NodeId>
-    ensures { result ≡ binding_at all.now symbol occurrence.now }
+fn put_binding(lists: &mut Vec<List<NodeId>>, at: usize, node: NodeId) -> Result<(), NoMemory>
+    requires { at < length lists.old.items }
+    ensures puts { OnOk result (PutsAt at node lists.old.items lists.new.items) }
+    ensures count { OnOk result (length lists.new.items ≡ length lists.old.items) }
 {
-    if is_bound_at(all, symbol, occurrence) && occurrence.valued {
-        Some(bound_node(occurrence.node, occurrence.role))
-    } else {
-        None
-    }
+    lists[at].push(node)?;
+    Ok(())
 }
 
-fn bindings(alloc: Global, all: &[Occurrence], symbol: Symbol) -> Result<List<NodeId>, NoMemory>
-    ensures { IfOk result (λ nodes. nodes ≡ bindings all.now symbol) }
+// Adds the binding at an occurrence to those of its symbol.
+fn add_binding(
+    instances: &Instances,
+    numbers: &IndexSet<Symbol>,
+    occurrence: &Occurrence,
+    bound: &mut Vec<List<NodeId>>,
+) -> Result<(), NoMemory>
+    requires unique { IsDistinct same_symbol numbers.now.keys }
+    requires count { length bound.old.items ≡ length numbers.now.keys }
+    ensures adds { OnOk result (AddsBinding instances.now numbers.now.keys occurrence.now bound.old.items bound.new.items) }
+    ensures count { OnOk result (length bound.new.items ≡ length bound.old.items) }
 {
-    let mut nodes = List::new(alloc);
-    for occurrence in all {
-        push_some(&mut nodes, binding_at(all, symbol, occurrence))?;
+    if !occurrence.valued {
+        return Ok(());
     }
-    Ok(nodes)
+    match number_bound(instances, numbers, occurrence) {
+        Some(number) => put_binding(bound, number, bound_node(occurrence.node, occurrence.role)),
+        None => Ok(()),
+    }
 }
 
 fn all_bindings(
     alloc: Global,
-    all: &[Occurrence],
-    numbers: &[Symbol],
+    instances: &Instances,
+    numbers: &IndexSet<Symbol>,
 ) -> Result<List<List<NodeId>>, NoMemory>
-    ensures { IfOk result (λ bound. bound ≡ map (bindings all.now) numbers.now) }
+    requires { length numbers.now.keys < 33554432 }
+    ensures { IfOk result (λ bound. bound ≡ map (bindings instances.now) numbers.now.keys) }
 {
-    let mut bound = List::new(alloc);
-    for symbol in numbers {
-        bound.push(bindings(alloc, all, *symbol)?)?;
+    let mut bound = no_bindings(alloc, numbers.len())?;
+    let all = instances.occurrences();
+    for occurrence in all {
+        add_binding(instances, numbers, occurrence, &mut bound)?;
     }
-    Ok(bound)
+    Ok(List::from_vec(bound))
 }
 
-fn is_member(class: NodeId, symbol: Symbol) -> bool
-    ensures { result ≡ is_member class symbol }
+fn no_members(alloc: Global, count: usize) -> Result<Vec<List<(NameId, SymId)>>, NoMemory>
+    requires { count < 33554432 }
+    ensures { IfOk result (λ lists. lists.items ≡ map no_items (first_ids count)) }
 {
-    is_class(symbol.scope.kind) && symbol.scope.node.0 == class.0
+    let mut lists = Vec::new(alloc);
+    for _ in 0..count {
+        lists.push(List::new(alloc))?;
+    }
+    Ok(lists)
 }
 
-fn members_of(
-    alloc: Global,
-    class: NodeId,
-    numbers: &[Symbol],
-) -> Result<List<(NameId, SymId)>, NoMemory>
-    requires { length numbers.now < 33554432 }
-    ensures { IfOk result (λ members. members ≡ members_from class 0 numbers.now) }
+fn put_member(
+    lists: &mut Vec<List<(NameId, SymId)>>,
+    at: usize,
+    member: (NameId, SymId),
+) -> Result<(), NoMemory>
+    requires { at < length lists.old.items }
+    ensures puts { OnOk result (PutsAt at member lists.old.items lists.new.items) }
+    ensures count { OnOk result (length lists.new.items ≡ length lists.old.items) }
 {
-    let mut members = List::new(alloc);
-    for (number, symbol) in numbers.iter().enumerate() {
-        if is_member(class, *symbol) {
-            members.push((symbol.name, SymId(number as u32)))?;
-        }
+    lists[at].push(member)?;
+    Ok(())
+}
+
+// Adds a symbol of this number to the members of the class whose name it is, if it is one's.
+fn add_member(
+    symbol: Symbol,
+    number: SymId,
+    members: &mut Vec<List<(NameId, SymId)>>,
+) -> Result<(), NoMemory>
+    ensures adds { OnOk result (AddsMember symbol number members.old.items members.new.items) }
+    ensures count { OnOk result (length members.new.items ≡ length members.old.items) }
+{
+    let class = symbol.scope.node.0 as usize;
+    if !is_class(symbol.scope.kind) || class >= members.len() {
+        return Ok(());
     }
-    Ok(members)
+    put_member(members, class, (symbol.name, number))
 }
 
 fn all_members(
     alloc: Global,
     tree: &Tree,
-    numbers: &[Symbol],
+    numbers: &IndexSet<Symbol>,
 ) -> Result<List<List<(NameId, SymId)>>, NoMemory>
-    requires { length numbers.now < 33554432 }
-    ensures { IfOk result (λ members. members ≡ map (λ id. members_from id 0 numbers.now) (node_ids tree.now)) }
+    requires { length numbers.now.keys < 33554432 }
+    ensures { IfOk result (λ members. members ≡ map (λ id. members_from id 0 numbers.now.keys) (node_ids tree.now)) }
 {
-    let mut members = List::new(alloc);
-    for number in 0..tree.node_count() {
-        members.push(members_of(alloc, NodeId(number as u32), numbers)?)?;
+    let mut members = no_members(alloc, tree.node_count())?;
+    for (number, symbol) in numbers.as_slice().iter().enumerate() {
+        add_member(*symbol, SymId(number as u32), &mut members)?;
     }
-    Ok(members)
+    Ok(List::from_vec(members))
 }

@@ -9,7 +9,11 @@
 //! place (`specs/Scopes.antt`), on the occurrences of names (`specs/Occurrences.antt`), on the search
 //! (`specs/Owner.antt`) and on the members of classes (`specs/Members.antt`).
 //!
-//! Below this crate stands `py_base` alone.
+//! `scopes` goes over the nodes, the occurrences and the symbols a few times each, and at a name outward
+//! over the nodes around it: tables hold the node around each node and what is said of a name in each
+//! scope (`specs/Tables.antt`). `plain_scopes` has the same contract, and searches everything each time.
+//!
+//! Below this crate stands `py_base` alone, and the kit's `indexmap`.
 #![tactic(auto)]
 
 mod around;
@@ -18,6 +22,9 @@ mod kinds;
 mod members;
 mod occurrence;
 mod owner;
+mod plain;
+mod roles;
+mod said;
 mod scope;
 mod search;
 mod table;
@@ -25,6 +32,7 @@ mod way;
 
 pub use build::scopes;
 pub use owner::Owner;
+pub use plain::plain_scopes;
 pub use table::Scopes;
 
 #[cfg(test)]

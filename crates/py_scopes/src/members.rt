@@ -1,138 +1,207 @@
-//! The symbols that are bound, members of classes among them.
-ghost use Rattle.std.specs.Prelude.{◌≡◌, ◌≤◌, ◌+◌, fold, length, IfOk, OnOk};
-ghost use Rattle.std.specs.List.{list_any};
-ghost use Rattle.std.specs.Option.{option_to_list};
-ghost use Rattle.py_scopes.specs.Owner.{same_symbol};
-ghost use Rattle.py_scopes.specs.Members.{is_first, is_static_of, is_static, class_only, is_instance, class_by, class_of, member_of, member_if, bound_symbol, with_symbol, symbols};
+//! The symbols that are bound, members of classes among them, by tables of the static methods and of the
+//! first parameters.
+ghost use Rattle.std.specs.Prelude.{◌≡◌, ◌≤◌, Option, Some, length, slice_get, IfOk, OnOk};
+ghost use Rattle.indexmap.specs.IndexMap.{get};
+ghost use Rattle.py_scopes.specs.Owner.{owner_scopes, symbol_of};
+ghost use Rattle.py_scopes.specs.Members.{class_only, class_of, member_if, bound_symbol, symbols};
+ghost use Rattle.py_scopes.specs.Tables.{static_method_at, HasStatics, HasClasses, instance_at, AddsStatic, AddsClass};
 
 use crate::occurrence::{Occurrence, Role};
-use crate::scope::{Scope, Symbol, is_class, is_innermost, is_same_name, is_same_symbol};
-use crate::search::symbol_of;
+use crate::roles::is_first;
+use crate::said::{add_symbol, symbol_in};
+use crate::scope::{Scope, Symbol, class_only, member_of};
+use crate::search::{Search, owner_scopes, symbol_of};
+use indexmap::{IndexMap, IndexSet};
 use py_base::{List, NameId, NoMemory, NodeId};
 use std::alloc::Global;
+use std::marker::Model;
 
-fn is_first(role: Role) -> bool
-    ensures { result ≡ is_first role }
+// The def that is made a static method here.
+fn static_method_at(search: &Search, occurrence: &Occurrence) -> Option<NodeId>
+    ensures { result ≡ static_method_at search.now occurrence.now }
 {
-    matches!(role, Role::FirstParameter)
-}
-
-fn is_static_of(statement: NodeId, role: Role) -> bool
-    ensures { result ≡ is_static_of statement role }
-{
-    match role {
-        Role::Static(other) => other.0 == statement.0,
-        _ => false,
+    match occurrence.role {
+        Role::Static(def) if symbol_of(search, occurrence).is_none() => Some(def),
+        _ => None,
     }
 }
 
-// Whether a decorator of the def is the builtin `staticmethod`.
-fn is_static(all: &[Occurrence], def: NodeId) -> bool
-    ensures { result ≡ is_static all.now def }
+fn add_static(statics: &mut IndexSet<NodeId>, def: Option<NodeId>) -> Result<(), NoMemory>
+    ensures { OnOk result (AddsStatic def statics.old.keys statics.new.keys) }
 {
-    all.iter().any(|occurrence| is_static_of(def, occurrence.role)
-        && symbol_of(all, occurrence).is_none())
-}
-
-fn class_only(scope: Option<Scope>) -> Option<Scope>
-    ensures { result ≡ class_only scope }
-{
-    let scope = scope?;
-    if is_class(scope.kind) {
-        Some(scope)
-    } else {
-        None
+    if let Some(def) = def {
+        statics.insert(def)?;
     }
+    Ok(())
 }
 
-// Whether the symbol is that of the first parameter here, of a def that isn't static.
-fn is_instance(all: &[Occurrence], symbol: Symbol, occurrence: &Occurrence) -> bool
-    ensures { result ≡ is_instance all.now symbol occurrence.now }
+// The static methods.
+fn all_statics(alloc: Global, search: &Search) -> Result<IndexSet<NodeId>, NoMemory>
+    ensures { IfOk result (λ statics. HasStatics search.now statics.keys) }
 {
-    is_first(occurrence.role)
-        && is_same_name(occurrence.name, symbol.name)
-        && is_innermost(symbol.scope, occurrence.scopes.as_slice())
-        && !is_static(all, symbol.scope.node)
-}
-
-fn class_by(all: &[Occurrence], symbol: Symbol, occurrence: &Occurrence) -> Option<Scope>
-    ensures { result ≡ class_by all.now symbol occurrence.now }
-{
-    if is_instance(all, symbol, occurrence) {
-        class_only(occurrence.scopes.as_slice().get(2).copied())
-    } else {
-        None
-    }
-}
-
-// The class whose instance a symbol is.
-fn class_of(all: &[Occurrence], symbol: Symbol) -> Option<Scope>
-    ensures { result ≡ class_of all.now symbol }
-{
+    let mut statics = IndexSet::new(alloc);
+    let all = search.occurrences();
     for occurrence in all {
-        if let Some(class) = class_by(all, symbol, occurrence) {
-            return Some(class);
-        }
+        add_static(&mut statics, static_method_at(search, occurrence))?;
     }
-    None
+    Ok(statics)
 }
 
-fn member_of(name: NameId, class: Option<Scope>) -> Option<Symbol>
-    ensures { result ≡ member_of name class }
+// The symbol of the first parameter here, of a def that isn't static.
+fn instance_at(
+    search: &Search,
+    statics: &IndexSet<NodeId>,
+    occurrence: &Occurrence,
+) -> Option<Symbol>
+    requires { HasStatics search.now statics.now.keys }
+    ensures { result ≡ instance_at search.now occurrence.now }
 {
-    match class {
-        Some(scope) => Some(Symbol { scope, name }),
-        None => None,
+    if !is_first(occurrence.role) {
+        return None;
+    }
+    let symbol = symbol_in(occurrence.name, occurrence.scopes.as_slice())?;
+    if statics.contains(&symbol.scope.node) {
+        None
+    } else {
+        Some(symbol)
     }
 }
 
-fn member_if(all: &[Occurrence], name: NameId, object: Option<Symbol>) -> Option<Symbol>
-    ensures { result ≡ member_if all.now name object }
+// The class that the def of a first parameter stands directly in: outside of the def's own scope and of
+// its type parameters.
+fn class_at(occurrence: &Occurrence) -> Option<Scope>
+    ensures { result ≡ class_only (slice_get occurrence.now.scopes 2) }
+{
+    class_only(occurrence.scopes.as_slice().get(2).copied())
+}
+
+// Adds the class whose instance a symbol is, if both are there and it has none yet.
+fn add_class(
+    classes: &mut IndexMap<Symbol, Scope>,
+    instance: Option<Symbol>,
+    class: Option<Scope>,
+) -> Result<(), NoMemory>
+    ensures { OnOk result (AddsClass instance class classes.old classes.new) }
+{
+    match (instance, class) {
+        (Some(symbol), Some(class)) if !classes.contains_key(&symbol) => {
+            classes.insert(symbol, class)?;
+            Ok(())
+        }
+        _ => Ok(()),
+    }
+}
+
+// The class whose instance each symbol is.
+fn all_classes(
+    alloc: Global,
+    search: &Search,
+    statics: &IndexSet<NodeId>,
+) -> Result<IndexMap<Symbol, Scope>, NoMemory>
+    requires { HasStatics search.now statics.now.keys }
+    ensures { IfOk result (λ classes. HasClasses search.now classes) }
+{
+    let mut classes = IndexMap::new(alloc);
+    let all = search.occurrences();
+    for occurrence in all {
+        let class = class_at(occurrence);
+        let instance = instance_at(search, statics, occurrence);
+        add_class(&mut classes, instance, class)?;
+    }
+    Ok(classes)
+}
+
+/// All occurrences, what they say, and the class whose instance each symbol is. A contract sees the
+/// occurrences.
+#[derive(Debug, Drop)]
+pub(crate) struct Instances {
+    search: Search,
+    classes: IndexMap<Symbol, Scope>,
+}
+
+impl Model for Instances {
+    ghost use Rattle.std.specs.Prelude.{List};
+    ghost use Rattle.py_scopes.specs.declared.occurrence.Occurrence.{Occurrence};
+    ghost use Rattle.py_scopes.specs.Tables.{HasClasses};
+
+    ghost Value = { List Occurrence };
+
+    ghost view = { λ s. s.search };
+
+    ghost invariant = { λ s. HasClasses s.search s.classes };
+}
+
+impl Instances {
+    /// What these occurrences say. `NoMemory` where it could not be stored.
+    pub(crate) fn new(alloc: Global, all: List<Occurrence>) -> Result<Instances, NoMemory>
+        ensures { IfOk result (λ instances. instances ≡ all) }
+    {
+        let search = Search::new(alloc, all)?;
+        let statics = all_statics(alloc, &search)?;
+        let classes = all_classes(alloc, &search, &statics)?;
+        Ok(Instances { search, classes })
+    }
+
+    /// All occurrences.
+    pub(crate) fn occurrences(&self) -> &[Occurrence]
+        ensures { result.now ≡ self.now }
+    {
+        self.search.occurrences()
+    }
+
+    /// The symbol that a name stands for, `None` exactly where nobody binds it.
+    pub(crate) fn symbol_of(&self, occurrence: &Occurrence) -> Option<Symbol>
+        ensures { result ≡ symbol_of self.now occurrence.now }
+    {
+        symbol_of(&self.search, occurrence)
+    }
+
+    /// From the scope outward whose name stands here.
+    pub(crate) fn owner_scopes<'a>(&self, occurrence: &'a Occurrence) -> &'a [Scope]
+        ensures { result.now ≡ owner_scopes self.now occurrence.now }
+    {
+        owner_scopes(&self.search, occurrence)
+    }
+
+    // The class whose instance a symbol is.
+    fn class_of(&self, symbol: Symbol) -> Option<Scope>
+        ensures { result ≡ class_of self.now symbol }
+    {
+        self.classes.get(&symbol).copied()
+    }
+}
+
+fn member_if(instances: &Instances, name: NameId, object: Option<Symbol>) -> Option<Symbol>
+    ensures { result ≡ member_if instances.now name object }
 {
     match object {
-        Some(symbol) => member_of(name, class_of(all, symbol)),
+        Some(symbol) => member_of(name, instances.class_of(symbol)),
         None => None,
     }
 }
 
 /// The symbol that is bound at an occurrence or at the target whose `p` it is, `None` exactly where
 /// none is.
-pub(crate) fn bound_symbol(all: &[Occurrence], occurrence: &Occurrence) -> Option<Symbol>
-    ensures { result ≡ bound_symbol all.now occurrence.now }
+pub(crate) fn bound_symbol(instances: &Instances, occurrence: &Occurrence) -> Option<Symbol>
+    ensures { result ≡ bound_symbol instances.now occurrence.now }
 {
     match occurrence.role {
-        Role::Binding | Role::FirstParameter => symbol_of(all, occurrence),
-        Role::Object(_, name) => member_if(all, name, symbol_of(all, occurrence)),
+        Role::Binding | Role::FirstParameter => instances.symbol_of(occurrence),
+        Role::Object(_, name) => member_if(instances, name, instances.symbol_of(occurrence)),
         _ => None,
-    }
-}
-
-fn is_among(symbols: &[Symbol], symbol: Symbol) -> bool
-    ensures { result ≡ list_any (same_symbol symbol) symbols.now }
-{
-    symbols.iter().any(|other| is_same_symbol(symbol, *other))
-}
-
-// Adds a symbol where there is one and it isn't there yet.
-fn add_symbol(symbols: &mut List<Symbol>, symbol: Option<Symbol>) -> Result<(), NoMemory>
-    ensures after { OnOk result (symbols.new ≡ fold with_symbol symbols.old (option_to_list symbol)) }
-    ensures room { OnOk result (length symbols.new ≤ length symbols.old + 1) }
-{
-    match symbol {
-        Some(symbol) if !is_among(symbols.as_slice(), symbol) => symbols.push(symbol),
-        _ => Ok(()),
     }
 }
 
 /// The symbols by their numbers, in the order of the occurrences that first bind them. `NoMemory`
 /// where they could not be stored.
-pub(crate) fn symbols(alloc: Global, all: &[Occurrence]) -> Result<List<Symbol>, NoMemory>
-    ensures symbols { IfOk result (λ numbers. numbers ≡ symbols all.now) }
-    ensures room { IfOk result (λ numbers. length numbers ≤ length all.now) }
+pub(crate) fn symbols(alloc: Global, instances: &Instances) -> Result<IndexSet<Symbol>, NoMemory>
+    ensures symbols { IfOk result (λ numbers. numbers.keys ≡ symbols instances.now) }
+    ensures room { IfOk result (λ numbers. length numbers.keys ≤ length instances.now) }
 {
-    let mut numbers = List::new(alloc);
+    let mut numbers = IndexSet::new(alloc);
+    let all = instances.occurrences();
     for occurrence in all {
-        add_symbol(&mut numbers, bound_symbol(all, occurrence))?;
+        add_symbol(&mut numbers, bound_symbol(instances, occurrence))?;
     }
     Ok(numbers)
 }

@@ -1,9 +1,10 @@
 //! The occurrences of names in a module.
-ghost use Rattle.std.specs.Prelude.{◌≡◌, ◌<◌, ◌++◌, IfOk, OnOk, codes, bytes_eq, length, map, slice_get};
+ghost use Rattle.std.specs.Prelude.{◌≡◌, ◌<◌, ◌++◌, Some, IfOk, OnOk, codes, bytes_eq, length, map, slice_get};
 ghost use Rattle.std.specs.List.{list_any};
 ghost use Rattle.std.specs.Option.{option_to_list};
 ghost use Rattle.py_scopes.specs.Kinds.{is_case, is_import, is_named, makes_member};
-ghost use Rattle.py_scopes.specs.Occurrences.{of_kind, if_import, binder, only_spells, in_pattern_string, counts, is_group, target_way, node_around, target_binder, decorated, is_first_part, is_first_parameter, text_of, word_name, name_of, object_of, read_by, static_at, static_or, read_role, role_of, some_binder, valued_by, annotation_of, annotation_by, scopes_for, is_builtin, occurrence_on, leaf_name, occurrence_at, occurrences, parts_of};
+ghost use Rattle.py_scopes.specs.Occurrences.{of_kind, if_import, binder, only_spells, in_pattern_string, counts, is_group, target_way, node_around, target_binder, decorated, is_first_part, is_first_parameter, text_of, word_name, name_of, object_of, read_by, static_at, static_or, read_role, role_of, some_binder, valued_by, annotation_of, annotation_by, scopes_for, is_builtin, occurrence_on, leaf_name, occurrence_if, occurrence_at, occurrences, parts_of};
+ghost use Rattle.py_scopes.specs.Tables.{steps_outward, AreBelow};
 
 use crate::around::{kind_around, scopes_along};
 use crate::kinds::{
@@ -435,8 +436,8 @@ fn occurrence_on(
     })
 }
 
-// The name that a leaf is.
-fn leaf_name(tree: &Tree, id: NodeId) -> Option<NameId>
+/// The name that a leaf is.
+pub(crate) fn leaf_name(tree: &Tree, id: NodeId) -> Option<NameId>
     ensures { result ≡ leaf_name (slice_get tree.now.nodes id.0) }
 {
     if (id.0 as usize) >= tree.node_count() {
@@ -450,24 +451,41 @@ fn leaf_name(tree: &Tree, id: NodeId) -> Option<NameId>
     }
 }
 
-/// The occurrence of a name at a node, `None` exactly where none stands there. `NoMemory` where it
-/// could not be stored.
-pub(crate) fn occurrence_at(
+/// The occurrence of a name at a node from which this way leads out, `None` exactly where the name
+/// doesn't count. `NoMemory` where it could not be stored.
+pub(crate) fn occurrence_if(
     alloc: Global,
     tree: &Tree,
     id: NodeId,
+    name: NameId,
+    way: &[Step],
 ) -> Result<Option<Occurrence>, NoMemory>
+    ensures { IfOk result (λ o. o ≡ occurrence_if tree.now id way.now (Some name)) }
+{
+    if !does_count(is_underscore(text_of(tree, name)), way) {
+        return Ok(None);
+    }
+    let occurrence = occurrence_on(alloc, tree, id, name, way)?;
+    Ok(Some(occurrence))
+}
+
+/// The occurrence of a name at a node, `None` exactly where none stands there, by the steps outward
+/// from all nodes. `NoMemory` where it could not be stored.
+pub(crate) fn occurrence_at(
+    alloc: Global,
+    tree: &Tree,
+    outward: &[Option<Step>],
+    id: NodeId,
+) -> Result<Option<Occurrence>, NoMemory>
+    requires outward { outward.now ≡ steps_outward tree.now }
+    requires node { id.0 < length tree.now.nodes }
     ensures { IfOk result (λ o. o ≡ occurrence_at tree.now id) }
 {
     let Some(name) = leaf_name(tree, id) else {
         return Ok(None);
     };
-    let way = way_out(alloc, tree, id)?;
-    if !does_count(is_underscore(text_of(tree, name)), way.as_slice()) {
-        return Ok(None);
-    }
-    let occurrence = occurrence_on(alloc, tree, id, name, way.as_slice())?;
-    Ok(Some(occurrence))
+    let way = way_out(alloc, tree, outward, id)?;
+    occurrence_if(alloc, tree, id, name, way.as_slice())
 }
 
 /// Adds an item, where there is one. `NoMemory` where it could not be stored.
@@ -482,13 +500,20 @@ pub(crate) fn push_some<T: Drop>(items: &mut List<T>, item: Option<T>) -> Result
 
 /// All occurrences of names, by the numbers of their nodes. `NoMemory` where they could not be
 /// stored.
-pub(crate) fn occurrences(alloc: Global, tree: &Tree) -> Result<List<Occurrence>, NoMemory>
+pub(crate) fn occurrences(
+    alloc: Global,
+    tree: &Tree,
+    outward: &[Option<Step>],
+) -> Result<List<Occurrence>, NoMemory>
+    requires { outward.now ≡ steps_outward tree.now }
     ensures all { IfOk result (λ all. all ≡ occurrences tree.now) }
     ensures room { IfOk result (λ all. length all < 33554432) }
+    ensures below { IfOk result (AreBelow (length tree.now.nodes)) }
 {
     let mut all = List::new(alloc);
     for number in 0..tree.node_count() {
-        push_some(&mut all, occurrence_at(alloc, tree, NodeId(number as u32))?)?;
+        let id = NodeId(number as u32);
+        push_some(&mut all, occurrence_at(alloc, tree, outward, id)?)?;
     }
     Ok(all)
 }

@@ -1,4 +1,6 @@
 //! Whose a name is.
+ghost use Rattle.std.specs.Prelude.{◌≡◌, ◌<◌, IfSome};
+ghost use Rattle.py_scopes.specs.Table.{owner_as};
 
 use py_base::{NameId, SymId};
 
@@ -15,4 +17,16 @@ pub enum Owner {
     Builtin(NameId),
     /// A name that nobody binds, and a node that is no name.
     Undefined,
+}
+
+/// The owner by the number of a symbol, whose scope runs in the graph of the use, or it doesn't.
+pub(crate) fn owner_as(is_local: bool, number: Option<usize>) -> Owner
+    requires { IfSome number (λ k. k < 33554432) }
+    ensures { result ≡ owner_as is_local number }
+{
+    match number {
+        Some(number) if is_local => Owner::Local(SymId(number as u32)),
+        Some(number) => Owner::Outer(SymId(number as u32)),
+        None => Owner::Undefined,
+    }
 }

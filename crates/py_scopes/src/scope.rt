@@ -1,9 +1,14 @@
 //! Scopes, and the symbols in them.
-ghost use Rattle.std.specs.Prelude.{◌≡◌};
+ghost use Rattle.std.specs.Prelude.{◌≡◌, ◌++◌};
+ghost use Rattle.std.specs.Cmp.{partial_equiv_from_equiv};
+ghost use Rattle.std.specs.Hash as fed;
+ghost use Rattle.py_scopes.specs.Same.{symbol_equiv, symbol_alike};
 ghost use Rattle.py_scopes.specs.Scopes.{is_of_types, same_scope, is_innermost, from_first, is_module, is_class, is_def, hides_classes, takes_named, has_graph, same_graph};
 ghost use Rattle.py_scopes.specs.Owner.{same_name, same_symbol};
+ghost use Rattle.py_scopes.specs.Members.{class_only, member_of};
 
 use py_base::{NameId, NodeId};
+use std::hash::{Hash, Hasher};
 
 /// What a scope belongs to.
 #[derive(Clone, Copy, Debug)]
@@ -24,11 +29,37 @@ pub struct Scope {
     pub kind: ScopeKind,
 }
 
-/// A name of a scope.
+/// A name of a scope. Two are equal where the names and the scopes are.
 #[derive(Clone, Copy, Debug)]
 pub struct Symbol {
     pub scope: Scope,
     pub name: NameId,
+}
+
+impl PartialEq for Symbol {
+    ghost eq = { same_symbol };
+
+    ghost laws = { partial_equiv_from_equiv symbol_equiv };
+
+    fn eq(&self, other: &Symbol) -> bool {
+        is_same_symbol(*self, *other)
+    }
+}
+
+impl Eq for Symbol {
+    ghost laws = { symbol_equiv };
+}
+
+// By the name and the node: a node has no more than two scopes.
+impl Hash for Symbol {
+    ghost hash_input = { λ s. fed.u32 s.name.0 ++ fed.u32 s.scope.node.0 };
+
+    ghost respects_eq = { symbol_alike };
+
+    fn hash<H: Hasher>(&self, state: &mut H) {
+        self.name.0.hash(state);
+        self.scope.node.0.hash(state);
+    }
 }
 
 fn is_of_types(kind: ScopeKind) -> bool
@@ -145,5 +176,27 @@ pub(crate) fn is_same_graph(one: &[Scope], other: &[Scope]) -> bool
     match from_graph(one).split_first() {
         Some((first, _)) => is_innermost(*first, from_graph(other)),
         None => false,
+    }
+}
+
+/// The scope, if it is a class.
+pub(crate) fn class_only(scope: Option<Scope>) -> Option<Scope>
+    ensures { result ≡ class_only scope }
+{
+    let scope = scope?;
+    if is_class(scope.kind) {
+        Some(scope)
+    } else {
+        None
+    }
+}
+
+/// The member of a class, if there is one, that has this name.
+pub(crate) fn member_of(name: NameId, class: Option<Scope>) -> Option<Symbol>
+    ensures { result ≡ member_of name class }
+{
+    match class {
+        Some(scope) => Some(Symbol { scope, name }),
+        None => None,
     }
 }

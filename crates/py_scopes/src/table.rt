@@ -27,7 +27,8 @@ impl Model for Scopes {
 }
 
 impl Scopes {
-    ghost use Rattle.std.specs.Prelude.{◌≡◌, ◌<◌, Some, length, slice_get};
+    ghost use Rattle.std.specs.Prelude.{◌≡◌, ◌<◌, Some, IfSome, length, slice_get};
+    ghost use Rattle.py_base.specs.Tree.{AreOlder};
     ghost use Rattle.py_scopes.specs.Table.{IsNumbered, AreNumbered};
 
     /// Whose the name at a node is.
@@ -42,7 +43,8 @@ impl Scopes {
     /// The annotation of a symbol that stands first in the text, `None` exactly where it has none.
     pub fn declaration(&self, sym: SymId) -> Option<NodeId>
         requires { sym.0 < length self.now.bound }
-        ensures { slice_get self.now.declared sym.0 ≡ Some result }
+        ensures value { slice_get self.now.declared sym.0 ≡ Some result }
+        ensures node { IfSome result (λ id. id.0 < length self.now.owners) }
     {
         self.declared.as_slice()[sym.0 as usize]
     }
@@ -51,7 +53,8 @@ impl Scopes {
     /// attributes.
     pub fn bindings(&self, sym: SymId) -> &[NodeId]
         requires { sym.0 < length self.now.bound }
-        ensures { slice_get self.now.bound sym.0 ≡ Some result.now }
+        ensures value { slice_get self.now.bound sym.0 ≡ Some result.now }
+        ensures nodes { AreOlder (length self.now.owners) result.now }
     {
         self.bound.as_slice()[sym.0 as usize].as_slice()
     }

@@ -8,7 +8,7 @@ ghost use Rattle.std.specs.Prelude.{◌≡◌, ◌<◌, length, IfOk, IfSome};
 ghost use Rattle.py_base.specs.Tree.{AreOlder};
 
 use crate::occurrence::push_some;
-use crate::{Owner, Scopes, scopes};
+use crate::{Owner, Scopes, plain_scopes, scopes};
 use py_base::{List, NameId, NoMemory, Node, NodeId, NodeKind, Span, SymId, Tree, Word};
 use std::alloc::{AllocError, Global};
 use std::fmt::Write;
@@ -377,25 +377,39 @@ fn show_classes(out: &mut String, tree: &Tree, scopes: &Scopes) -> Result<(), Al
     Ok(())
 }
 
-// What the table of a tree says.
-fn shown(alloc: Global, text: &str) -> Result<String, Fail> {
-    let tree = tree_of(alloc, text)?;
-    let scopes = scopes(alloc, &tree)?;
+// What a table says.
+fn shown(alloc: Global, tree: &Tree, scopes: &Scopes) -> Result<String, Fail>
+    requires { length scopes.now.owners ≡ length tree.now.nodes }
+{
     let mut out = String::new(alloc);
-    show_owners(&mut out, &tree, &scopes)?;
+    show_owners(&mut out, tree, scopes)?;
     write!(out, "| ")?;
-    show_symbols(&mut out, &scopes)?;
+    show_symbols(&mut out, scopes)?;
     write!(out, "| ")?;
-    show_classes(&mut out, &tree, &scopes)?;
+    show_classes(&mut out, tree, scopes)?;
     Ok(out)
+}
+
+// What the table of a tree says.
+fn shown_table(alloc: Global, text: &str) -> Result<String, Fail> {
+    let tree = tree_of(alloc, text)?;
+    let table = scopes(alloc, &tree)?;
+    shown(alloc, &tree, &table)
+}
+
+// What the plain program says.
+fn shown_plainly(alloc: Global, text: &str) -> Result<String, Fail> {
+    let tree = tree_of(alloc, text)?;
+    let table = plain_scopes(alloc, &tree)?;
+    shown(alloc, &tree, &table)
 }
 
 #[test]
 fn owners_by_scopes(rt: HostRuntime) -> Result<(), Fail> {
     for row in SCOPES.lines() {
         let (text, wanted) = row.split_once(" = ").unwrap_or((row, ""));
-        let found = shown(rt.alloc(), text)?;
-        assert_eq!(rt; found.as_str(), wanted);
+        assert_eq!(rt; shown_table(rt.alloc(), text)?.as_str(), wanted);
+        assert_eq!(rt; shown_plainly(rt.alloc(), text)?.as_str(), wanted);
     }
     Ok(())
 }
@@ -404,8 +418,8 @@ fn owners_by_scopes(rt: HostRuntime) -> Result<(), Fail> {
 fn owners_by_forms(rt: HostRuntime) -> Result<(), Fail> {
     for row in FORMS.lines() {
         let (text, wanted) = row.split_once(" = ").unwrap_or((row, ""));
-        let found = shown(rt.alloc(), text)?;
-        assert_eq!(rt; found.as_str(), wanted);
+        assert_eq!(rt; shown_table(rt.alloc(), text)?.as_str(), wanted);
+        assert_eq!(rt; shown_plainly(rt.alloc(), text)?.as_str(), wanted);
     }
     Ok(())
 }
@@ -414,8 +428,8 @@ fn owners_by_forms(rt: HostRuntime) -> Result<(), Fail> {
 fn members_and_declarations(rt: HostRuntime) -> Result<(), Fail> {
     for row in MEMBERS.lines() {
         let (text, wanted) = row.split_once(" = ").unwrap_or((row, ""));
-        let found = shown(rt.alloc(), text)?;
-        assert_eq!(rt; found.as_str(), wanted);
+        assert_eq!(rt; shown_table(rt.alloc(), text)?.as_str(), wanted);
+        assert_eq!(rt; shown_plainly(rt.alloc(), text)?.as_str(), wanted);
     }
     Ok(())
 }
@@ -424,8 +438,8 @@ fn members_and_declarations(rt: HostRuntime) -> Result<(), Fail> {
 fn rarer_places(rt: HostRuntime) -> Result<(), Fail> {
     for row in CORNERS.lines() {
         let (text, wanted) = row.split_once(" = ").unwrap_or((row, ""));
-        let found = shown(rt.alloc(), text)?;
-        assert_eq!(rt; found.as_str(), wanted);
+        assert_eq!(rt; shown_table(rt.alloc(), text)?.as_str(), wanted);
+        assert_eq!(rt; shown_plainly(rt.alloc(), text)?.as_str(), wanted);
     }
     Ok(())
 }

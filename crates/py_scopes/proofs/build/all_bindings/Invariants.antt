@@ -1,6 +1,9 @@
-use Rattle.std.proofs.Common.{◌≡◌, take, map}
-use Rattle.py_scopes.specs.Table.{bindings}
+use Rattle.std.proofs.Common.{◌≡◌, drop, length}
+use Rattle.py_scopes.proofs.Passes.{BindingsFrom}
 use Rattle.py_scopes.proofs.build.all_bindings.Given as goal
 
-abbrev pub invariant-loop-symbol : goal.invariant-loop-symbol
-invariant-loop-symbol l = l.bound ≡ map (bindings l.all) (take l.symbol-index l.numbers)
+abbrev pub invariant-loop-occurrence : goal.invariant-loop-occurrence
+invariant-loop-occurrence l = record {
+  rest : BindingsFrom l.instances l.numbers.keys (drop l.occurrence-index l.all) l.bound.items;
+  count : length l.bound.items ≡ length l.numbers.keys;
+}

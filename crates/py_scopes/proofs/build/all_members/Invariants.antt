@@ -1,7 +1,9 @@
-use Rattle.std.proofs.Common.{◌≡◌, map}
-use Rattle.py_scopes.specs.Occurrences.{first_ids}
-use Rattle.py_scopes.specs.Table.{members_from}
+use Rattle.std.proofs.Common.{◌≡◌, length}
+use Rattle.py_scopes.proofs.Passes.{MembersFrom}
 use Rattle.py_scopes.proofs.build.all_members.Given as goal
 
 abbrev pub invariant-loop-number : goal.invariant-loop-number
-invariant-loop-number l = l.members ≡ map (λ id. members_from id 0 l.numbers) (first_ids l.number)
+invariant-loop-number l = record {
+  rest : MembersFrom (length l.tree.nodes) l.numbers.keys l.number l.members.items;
+  count : length l.members.items ≡ length l.tree.nodes;
+}

@@ -1,6 +1,6 @@
-use Rattle.std.proofs.Common.{◌≡◌, take, map}
-use Rattle.py_scopes.specs.Table.{declaration}
+use Rattle.std.proofs.Common.{◌≡◌, map, take}
+use Rattle.py_scopes.specs.Tables.{node_of}
 use Rattle.py_scopes.proofs.build.declarations.Given as goal
 
-abbrev pub invariant-loop-symbol : goal.invariant-loop-symbol
-invariant-loop-symbol l = l.declared ≡ map (declaration l.all) (take l.symbol-index l.numbers)
+abbrev pub invariant-loop-annotation : goal.invariant-loop-annotation
+invariant-loop-annotation l = l.declared ≡ map node_of (take l.annotation-index l.annotation-items)

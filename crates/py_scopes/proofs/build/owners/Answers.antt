@@ -4,4 +4,4 @@ use Rattle.py_scopes.proofs.build.owners.Goals as goal
 
 pub loop-number-preserved : goal.loop-number-preserved
 loop-number-preserved c =
-    made-step (owner_at c.args.tree.now c.args.all.now c.args.numbers.now) c.loop-number.number c.loop-number.owners c.push.new.self c.in_ok-owner_at.field-0 c.in_ok-push.ensures.ok c.in_ok-owner_at.ensures c.loop-number.invariant
+    made-step (owner_at c.args.tree.now c.args.instances.now c.args.numbers.now.keys) c.loop-number.number c.loop-number.owners c.push.new.self c.in_ok-owner_at.field-0 c.in_ok-push.ensures.ok c.in_ok-owner_at.ensures c.loop-number.invariant

@@ -4,4 +4,4 @@ use Rattle.py_scopes.specs.Table.{owner_at}
 use Rattle.py_scopes.proofs.build.owners.Given as goal
 
 abbrev pub invariant-loop-number : goal.invariant-loop-number
-invariant-loop-number l = l.owners ≡ map (owner_at l.tree l.all l.numbers) (first_ids l.number)
+invariant-loop-number l = l.owners ≡ map (owner_at l.tree l.instances l.numbers.keys) (first_ids l.number)

@@ -1,18 +1,12 @@
-use Rattle.std.proofs.Common.{sym, ap, ◌∙◌}
-use Rattle.std.specs.Prelude.{position, Some}
-use Rattle.py_scopes.specs.Way.{same_node}
-use Rattle.py_scopes.proofs.Walks.{step-found, step-passed}
+use Rattle.std.proofs.Common.{arith}
+use Rattle.py_scopes.proofs.Outward.{table-length, step-is, step-ends}
 use Rattle.py_scopes.proofs.way.step_out.Goals as goal
 
-pub returns-in-Some : goal.returns-in-Some
-returns-in-Some c =
-    let nodes = c.args.tree.now.nodes in
-    let place = ap (position (λ p. same_node p c.args.id)) (sym c.as_slice.ensures) ∙ sym c.place_of.ensures ∙ c.in-Some.is in
-    let found = step-found nodes c.args.id c.loop-number.number c.in-Some.place c.node-node.result.now c.node-node.ensures.value place in
-    ap Some c.step_from.ensures ∙ sym found ∙ c.loop-number.invariant
+pub step_at-requires : goal.step_at-requires
+step_at-requires c = let count = table-length c.args.tree.now.nodes c.args.outward.now c.requires.outward in omega (arith, count, c.requires.node)
 
-pub loop-number-preserved : goal.loop-number-preserved
-loop-number-preserved c =
-    let nodes = c.args.tree.now.nodes in
-    let place = ap (position (λ p. same_node p c.args.id)) (sym c.as_slice.ensures) ∙ sym c.place_of.ensures ∙ c.in_default.is in
-    sym (step-passed nodes c.args.id c.loop-number.number c.node-node.result.now c.node-node.ensures.value place) ∙ c.loop-number.invariant
+pub returns-clause-value : goal.returns-clause-value
+returns-clause-value c = step-is c.args.tree.now.nodes c.args.id c.args.outward.now c.step_at.result c.requires.outward c.requires.node c.step_at.ensures
+
+pub returns-clause-within : goal.returns-clause-within
+returns-clause-within c = step-ends c.args.tree.now.nodes c.args.id c.args.outward.now c.step_at.result c.requires.outward c.requires.node c.step_at.ensures

@@ -1,0 +1,19 @@
+use Rattle.std.proofs.Common.{◌≡◌, ◌∙◌, ap, arith, length}
+use Rattle.std.specs.Prelude.{filter_map}
+use Rattle.py_scopes.specs.Occurrences.{occurrence_at, first_ids}
+use Rattle.py_scopes.proofs.Below.{occurrences-below}
+use Rattle.py_scopes.proofs.Walks.{kept-step, room-step}
+use Rattle.py_scopes.proofs.plain.occurrences.occurrences.Goals as goal
+
+pub loop-number-preserved : goal.loop-number-preserved
+loop-number-preserved c =
+    record {
+      all = kept-step (occurrence_at c.args.tree.now) c.loop-number.number c.loop-number.all c.push_some.new.items c.in_ok-occurrence_at.field-0 c.in_ok-push_some.ensures c.in_ok-occurrence_at.ensures c.loop-number.invariant.all;
+      room = room-step c.loop-number.all c.push_some.new.items c.in_ok-occurrence_at.field-0 c.loop-number.number c.in_ok-push_some.ensures c.loop-number.invariant.room;
+    }
+
+pub returns-clause-below : goal.returns-clause-below
+returns-clause-below c =
+    let a = c.args.tree.now in
+    let end : c.loop-number.number ≡ length a.nodes = omega (arith, c.loop-number-test.false, c.loop-number.auto.number-end, c.node_count-number-end.ensures.count) in
+    occurrences-below a c.loop-number.all c.node_count-number-end.ensures.linked (c.loop-number.invariant.all ∙ ap (λ n. filter_map (occurrence_at a) (first_ids n)) end)

@@ -1,0 +1,6 @@
+use Rattle.std.proofs.Common.{ap, ◌∙◌}
+use Rattle.py_scopes.specs.Owner.{is_global_name, is_said}
+use Rattle.py_scopes.proofs.said.Said.is_global.Goals as goal
+
+pub returns : goal.returns
+returns c = c.contains.ensures ∙ c.self.invariant.1 (record { scope = c.args.scope; name = c.args.name }) ∙ ap (λ a. is_said is_global_name a c.args.scope c.args.name) c.self.view_is
