@@ -1,0 +1,7 @@
+use Rattle.std.proofs.Common.{◌≡◌, ◌++◌, drop}
+use Rattle.flow_forms.specs.Patterns.{gather}
+use Rattle.flow_forms.specs.Forms.{name_of}
+use Rattle.flow_forms.proofs.functions.add_names.Given as goal
+
+abbrev pub invariant-loop-part : goal.invariant-loop-part
+invariant-loop-part l = l.list ++ gather (name_of l.tree.nodes) (drop l.part-index l.parts) ≡ l.initial.list ++ gather (name_of l.tree.nodes) l.parts
