@@ -1,0 +1,34 @@
+//! Counts what each layer makes of a text, so that `bench/layers.py` can time the layers one by one.
+//!
+//! The text is standard input, and the word behind the program's name says how far it goes:
+//! `lines` (logical lines and tokens), `expressions` (each line read as an expression), `module` (the
+//! module of the text) and `scopes` (its symbols). `nodes` and `names`
+//! take no text, but a number: so many nodes are added to a tree, or so many names.
+//!
+//! Its answers are tested, not proved: they are counts of what the layers below are proved to give.
+#![tactic(auto)]
+
+mod counts;
+
+use std::{env, io};
+
+fn main(rt: HostRuntime) -> io::Result<()> {
+    let mut words = env::args(&rt)?.skip(1);
+    let Some(layer) = words.next() else {
+        return println!(rt;
+            "layer_counts: usage: lines, expressions, module, scopes, nodes N, names N"
+        );
+    };
+    let number = match words.next() {
+        None => 0,
+        Some(word) => word.as_str().parse::<u32>().unwrap_or(0),
+    };
+    match layer.as_str() {
+        "nodes" => counts::nodes(rt, number),
+        "names" => counts::names(rt, number),
+        layer => {
+            let text = io::read_to_string(rt.alloc(), rt.stdin())?;
+            counts::layers(rt, layer, text.as_str())
+        }
+    }
+}
