@@ -1,5 +1,5 @@
 -- Where the exits of a part lead: a loop takes `break` and `continue`, handlers take what raises, and a `finally` block is entered by
--- whatever leaves (Python 3.12 language reference, sections 7.8 to 7.10 and 8.2 to 8.4).
+-- whatever leaves (Python 3.12 language reference, sections 7.6, 7.8 to 7.10 and 8.2 to 8.4).
 use Rattle.std.specs.Prelude.{List, [], ◌∷◌, ◌++◌}
 use Rattle.flow_points.specs.declared.point.Point.{Point}
 use Rattle.flow_points.specs.declared.edge.Edge.{Edge}

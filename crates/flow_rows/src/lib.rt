@@ -7,7 +7,7 @@
 //!
 //! A rule of the language is one row, in `specs/Expressions.antt` or `specs/Statements.antt`, and one
 //! function here. Rows and functions say the same: that they say what the language says is shown by the
-//! tests of the crate above alone. Below stand `py_base` and `flow_points`.
+//! tests of `point_graph` alone, which makes the graphs. Below stand `py_base` and `flow_points`.
 #![tactic(auto)]
 
 mod choices;

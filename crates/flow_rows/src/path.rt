@@ -9,6 +9,7 @@ use flow_points::{Channel, Dest, Edge, EdgeKind, Exit, Kid, Mode, Point, Route, 
 use py_base::{List, NoMemory, NodeId};
 use std::alloc::Global;
 
+/// The plain edge between two points.
 pub fn plain(from: Point, to: Point) -> Edge
     ensures { result ≡ edge from to EdgeKind.Plain }
 {

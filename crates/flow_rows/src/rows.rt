@@ -158,36 +158,25 @@ pub fn row_of(
     ensures { IfOk result (λ r. r ≡ row ends.now node form.now copy mode) }
 {
     match form {
-        Form::Silent => Ok(nothing(alloc)),
+        Form::Silent | Form::Module(_) => Ok(nothing(alloc)),
         Form::Steps(parts) => row_of_steps(alloc, ends, node, parts.as_slice(), copy, mode),
         Form::Sequence(parts) => row_of_sequence(alloc, ends, parts.as_slice(), copy),
         Form::Call(callee, arguments) => {
             row_of_call(alloc, ends, node, *callee, arguments.as_slice(), copy, mode)
         }
-        Form::CallOver(callee, element, clauses) => row_of_call_over(
-            alloc,
-            ends,
-            node,
-            *callee,
-            *element,
-            clauses.as_slice(),
-            copy,
-            mode,
-        ),
+        Form::CallOver(callee, element, clauses) => {
+            let clauses = clauses.as_slice();
+            row_of_call_over(alloc, ends, node, *callee, *element, clauses, copy, mode)
+        }
         Form::And(a, b) => row_of_and(alloc, ends, node, *a, *b, copy, mode),
         Form::Or(a, b) => row_of_or(alloc, ends, node, *a, *b, copy, mode),
         Form::Not(a) => row_of_not(alloc, node, *a, copy, mode),
         Form::Group(a) => row_of_group(alloc, ends, node, *a, copy, mode),
         Form::Conditional(choice) => row_of_choice(alloc, ends, node, *choice, copy, mode),
-        Form::Comprehension(element, clauses) => row_of_comprehension(
-            alloc,
-            ends,
-            node,
-            *element,
-            clauses.as_slice(),
-            copy,
-            mode,
-        ),
+        Form::Comprehension(element, clauses) => {
+            let clauses = clauses.as_slice();
+            row_of_comprehension(alloc, ends, node, *element, clauses, copy, mode)
+        }
         Form::Function(function) => row_of_function(alloc, ends, node, function, copy, mode),
         Form::Jump(channel, parts) => {
             row_of_jump(alloc, ends, node, *channel, parts.as_slice(), copy)
@@ -201,6 +190,5 @@ pub fn row_of(
         Form::Try(form) => row_of_try(alloc, ends, node, form, copy),
         Form::Match(form) => row_of_match(alloc, ends, node, form, copy),
         Form::Case(form) => row_of_case(alloc, ends, node, form, copy),
-        Form::Module(_) => Ok(nothing(alloc)),
     }
 }
