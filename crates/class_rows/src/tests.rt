@@ -156,20 +156,29 @@ fn builtin_classes(rt: HostRuntime) -> Result<(), Fail> {
     Ok(())
 }
 
-#[test]
-fn members_and_openness(rt: HostRuntime) -> Result<(), Fail> {
-    let alloc = rt.alloc();
-    // class A(Unknown), class B(A), class C, class D(C)
+// class A(Unknown), class B(A), class C, class D(C)
+fn small_rows(rt: &impl Abort, alloc: Global) -> Result<ClassRows, Fail> {
     let mut heads = List::new(alloc);
     heads.push(head(alloc, &[UNKNOWN], &[(1, 10), (2, 20)])?)?;
     heads.push(head(alloc, &[A], &[(1, 11)])?)?;
     heads.push(head(alloc, &[], &[(1, 12), (1, 13)])?)?;
     heads.push(head(alloc, &[C], &[])?)?;
-    let rows = rows_of(&rt, alloc, &heads)?;
+    Ok(rows_of(rt, alloc, &heads)?)
+}
+
+#[test]
+fn openness(rt: HostRuntime) -> Result<(), Fail> {
+    let rows = small_rows(&rt, rt.alloc())?;
     for (class, is_open) in [(A, true), (B, true), (C, false), (D, false)] {
         assert!(rt; rows.has_class(ClassId(class)));
         assert_eq!(rt; rows.is_open(ClassId(class)), is_open, "{class}");
     }
+    Ok(())
+}
+
+#[test]
+fn classes_under_others(rt: HostRuntime) -> Result<(), Fail> {
+    let rows = small_rows(&rt, rt.alloc())?;
     for (low, high, is_sub) in [
         (B, A, true),
         (A, A, true),
@@ -185,6 +194,12 @@ fn members_and_openness(rt: HostRuntime) -> Result<(), Fail> {
             "{low} {high}"
         );
     }
+    Ok(())
+}
+
+#[test]
+fn members_of_classes(rt: HostRuntime) -> Result<(), Fail> {
+    let rows = small_rows(&rt, rt.alloc())?;
     for (class, name, symbol) in [
         (A, 1, Some(SymId(10))),
         (B, 1, Some(SymId(11))),
