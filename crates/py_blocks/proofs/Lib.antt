@@ -6,3 +6,4 @@ pub mod Searches
 pub mod Linking
 pub mod Asking
 pub mod Owners
+pub mod Repeats

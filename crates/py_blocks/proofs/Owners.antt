@@ -44,7 +44,7 @@ eqb-turned a b = go (a == b) refl (b == a) refl
     go false i true j = eq-eqb a b (sym (eqb-true b a j)) ∙ sym j
     go false i false j = i ∙ sym j
 
-text-turned : (x y : List ℕ) → bytes_eq x y ≡ bytes_eq y x
+pub text-turned : (x y : List ℕ) → bytes_eq x y ≡ bytes_eq y x
 text-turned [] [] = refl
 text-turned [] (b ∷ y) = refl
 text-turned (a ∷ x) [] = refl

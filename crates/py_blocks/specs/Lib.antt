@@ -9,3 +9,4 @@ pub mod Shortcuts
 pub mod Links
 pub mod Kept
 pub mod NameSets
+pub mod NameLists

@@ -79,7 +79,9 @@ fn first_in<'a>(
 /// (Python 3.12 language reference, 2.1.8, 7 and 8).
 ///
 /// Asks that each line's tree is a node of the tree. `NoMemory` where what the rules see of the lines
-/// could not be stored. The time grows with the lines times the depth of their blocks.
+/// could not be stored. The time grows with the lines, and the names that they declare nonlocal, times
+/// the depth of their blocks, with the nodes of the lines' trees times the height of these, and with the
+/// names times the logarithm of their number.
 pub fn first_fault(
     alloc: Global,
     tree: &Tree,

@@ -1,52 +1,15 @@
 //! The rules within a line: its parameters and its captures.
-ghost use Rattle.std.specs.Prelude.{◌≡◌, ◌<◌, ◌&&◌, ◌||◌, ◌++◌, [], bytes_eq, length, List, Option, OnOk, IfOk, if◌then◌else◌};
+ghost use Rattle.std.specs.Prelude.{◌≡◌, ◌<◌, ◌&&◌, ◌||◌, ◌++◌, [], length, List, Option, OnOk, IfOk, if◌then◌else◌};
 ghost use Rattle.py_base.specs.Tree.{SyntaxTree, tree_of, trees, parts_at, AreOlder, IsLinked};
-ghost use Rattle.py_blocks.specs.Facts.{among, are_distinct, all_among, are_alike, is_star, default_of, defaults, are_ordered, is_lambda, has_parameters, parameters_fit, captures, capture_alike, alternatives_fit, pattern_fits, is_or, is_case, node_fits, tree_fits};
+ghost use Rattle.py_blocks.specs.Facts.{are_distinct, are_alike, is_star, default_of, defaults, are_ordered, is_lambda, has_parameters, parameters_fit, captures, capture_alike, alternatives_fit, pattern_fits, is_or, is_case, node_fits, tree_fits};
 ghost use Rattle.py_blocks.specs.Ordered.{seen_after, ordered_after};
 
+use crate::name_lists::{are_alike, are_distinct};
 use crate::names::names_in;
 use crate::role::Role;
 use crate::walk::node_of;
 use py_base::{List, NoMemory, NodeId, NodeKind, Text, Tree};
 use std::alloc::Global;
-
-fn is_same(name: &str, other: &Text) -> bool
-    ensures { result ≡ bytes_eq name.now other.now }
-{
-    name == other.as_str()
-}
-
-/// Whether a name is among others.
-pub fn is_among(name: &str, names: &[Text]) -> bool
-    ensures { result ≡ among name.now names.now }
-{
-    names.iter().any(|other| is_same(name, other))
-}
-
-fn are_distinct(names: &[Text]) -> bool
-    ensures { result ≡ are_distinct names.now }
-{
-    let mut rest = names;
-    'names: while let Some((name, behind)) = rest.split_first() {
-        if is_among(name.as_str(), behind) {
-            return false;
-        }
-        rest = behind;
-    }
-    true
-}
-
-fn are_all_among(names: &[Text], others: &[Text]) -> bool
-    ensures { result ≡ all_among names.now others.now }
-{
-    names.iter().all(|name| is_among(name.as_str(), others))
-}
-
-fn are_alike(names: &[Text], others: &[Text]) -> bool
-    ensures { result ≡ are_alike names.now others.now }
-{
-    are_all_among(names, others) && are_all_among(others, names)
-}
 
 fn is_star(kind: NodeKind) -> bool
     ensures { result ≡ is_star kind }
@@ -141,7 +104,7 @@ fn parameters_fit(alloc: Global, tree: &Tree, id: NodeId) -> Result<bool, NoMemo
 {
     let names = names_in(alloc, tree, Role::Signature, id)?;
     let node = node_of(tree, id);
-    let distinct = are_distinct(names.as_slice());
+    let distinct = are_distinct(alloc, names.as_slice())?;
     let ordered = are_ordered(tree, is_lambda(node.kind), node.parts.as_slice());
     Ok(distinct && ordered)
 }
@@ -162,8 +125,8 @@ fn captures_just(alloc: Global, tree: &Tree, wanted: &[Text], id: NodeId) -> Res
     ensures { IfOk result (λ alike. alike ≡ (are_alike wanted.now (captures (tree_of tree.now id)) && are_distinct (captures (tree_of tree.now id)))) }
 {
     let names = captures_of(alloc, tree, id)?;
-    let alike = are_alike(wanted, names.as_slice());
-    let distinct = are_distinct(names.as_slice());
+    let alike = are_alike(alloc, wanted, names.as_slice())?;
+    let distinct = are_distinct(alloc, names.as_slice())?;
     Ok(alike && distinct)
 }
 
@@ -195,8 +158,12 @@ fn alternatives_fit(alloc: Global, tree: &Tree, parts: &[NodeId]) -> Result<bool
         return Ok(true);
     };
     let wanted = captures_of(alloc, tree, *first)?;
+    let distinct = are_distinct(alloc, wanted.as_slice())?;
+    if !distinct {
+        return Ok(false);
+    }
     let alike = capture_alike(alloc, tree, wanted.as_slice(), others)?;
-    Ok(are_distinct(wanted.as_slice()) && alike)
+    Ok(alike)
 }
 
 fn pattern_fits(alloc: Global, tree: &Tree, parts: &[NodeId]) -> Result<bool, NoMemory>
@@ -208,7 +175,8 @@ fn pattern_fits(alloc: Global, tree: &Tree, parts: &[NodeId]) -> Result<bool, No
         return Ok(true);
     };
     let names = captures_of(alloc, tree, *pattern)?;
-    Ok(are_distinct(names.as_slice()))
+    let distinct = are_distinct(alloc, names.as_slice())?;
+    Ok(distinct)
 }
 
 // Whether a node has its parameters, its alternatives or its pattern as they should be.

@@ -13,9 +13,13 @@
 //! `links` says what each line is to the lines before it, `answers` which lines have one behind them
 //! that a rule asks for, and `name_sets` which names each def has, each by one pass over the lines, with
 //! a stack of open blocks or a set. `rules`, `neighbours` and `scopes` judge a line by them, and `first`
-//! goes through the lines. So the time grows with the lines times the depth of their blocks, and for
-//! names with the logarithm of their number. `plain` is the slow program beside it, which searches all
-//! lines as the definitions do.
+//! goes through the lines. `fits` judges the parameters and captures of one line, whose names
+//! `name_lists` compares by a set.
+//!
+//! The time grows with the lines, and the names that they declare nonlocal, times the depth of their
+//! blocks; with the nodes of the lines' trees times the height of these; and with the names times the
+//! logarithm of their number. `plain` is the slow program beside it, which searches all lines as the
+//! definitions do, over the same facts.
 //!
 //! Below stand `py_base` (trees) and `py_tokens` (faults of tokens).
 #![tactic(auto)]
@@ -27,6 +31,7 @@ mod first;
 mod fits;
 mod lines;
 mod links;
+mod name_lists;
 mod name_sets;
 mod names;
 mod neighbours;

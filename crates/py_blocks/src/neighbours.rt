@@ -6,9 +6,6 @@ use crate::facts::LineFacts;
 use crate::lines::{column_at, is_a, opens_at};
 use crate::sort::Sort;
 
-/// How deep `finally` blocks are nested at most, the outermost counting as 1.
-const MOST_FINALLY: usize = 4;
-
 fn column_before(lines: &[LineFacts], at: usize) -> u32
     ensures { result ≡ (previous lines.now at).column }
 {

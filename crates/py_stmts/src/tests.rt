@@ -48,7 +48,7 @@ fn show_node(
     Ok(out)
 }
 
-// The tree of a node.
+/// The tree of a node.
 pub fn show_tree(alloc: Global, tree: &Tree, id: NodeId) -> Result<String, AllocError> {
     let mut texts = Vec::new(alloc);
     for at in 0..tree.node_count() {

@@ -1,5 +1,5 @@
 //! The rules on the names of defs, each by a search through all lines.
-ghost use Rattle.std.specs.Prelude.{◌≡◌, ◌||◌, not, length};
+ghost use Rattle.std.specs.Prelude.{◌≡◌, ◌||◌, bytes_eq, not, length};
 ghost use Rattle.std.specs.List.{list_any};
 ghost use Rattle.py_blocks.specs.Facts.{among};
 ghost use Rattle.py_blocks.specs.Blocks.{line_at};
@@ -8,10 +8,21 @@ ghost use Rattle.py_blocks.specs.Search.{some_below};
 
 use super::nesting::{encloses_as, is_innermost, lies_between};
 use crate::facts::LineFacts;
-use crate::fits::is_among;
 use crate::lines::is_a;
 use crate::sort::Sort;
 use py_base::Text;
+
+fn is_same(name: &str, other: &Text) -> bool
+    ensures { result ≡ bytes_eq name.now other.now }
+{
+    name == other.as_str()
+}
+
+fn is_among(name: &str, names: &[Text]) -> bool
+    ensures { result ≡ among name.now names.now }
+{
+    names.iter().any(|other| is_same(name, other))
+}
 
 // Whether the statements of a line stand in the body of a def or class.
 fn is_body_of(lines: &[LineFacts], scope: usize, at: usize) -> bool
