@@ -1,0 +1,27 @@
+//! The references that the nodes of a tree stand for.
+//!
+//! In one sentence: `node_references` gives each reference of a tree one number, and each node the number of the
+//! reference that it stands for (`AreNodeReferences`, in `specs/Numbers.antt`).
+//!
+//! A reference is a symbol, a chain of names behind one, or the hidden reference of a `match`
+//! (`specs/References.antt`, after the Python 3.12 language reference, 6.2.1, 6.2.3 and 6.3.1). Whether a node
+//! runs, and whether it reads, binds or tests its reference, isn't said here.
+//!
+//! Below stand `py_base` (trees), `py_scopes` (whose a name is) and `flow_forms` (the kind and the parts that a
+//! number has). Time grows with the tree; the names of a chain are stored for each of its beginnings, of which
+//! there are at most 256.
+#![tactic(auto)]
+
+mod nodes;
+mod numbering;
+mod reference;
+mod referred;
+mod shape;
+
+pub use nodes::{kind_of, name_of, node_at, parts_of};
+pub use reference::{Reference, Root};
+pub use referred::{NodeReferences, at, node_references};
+pub use shape::{Shape, shape_of};
+
+#[cfg(test)]
+mod tests;
