@@ -1,0 +1,11 @@
+use Rattle.std.proofs.Common.{take}
+use Rattle.flow_edges.specs.Flow.{Has}
+use Rattle.point_graph.specs.Building.{Enters, Joins, AreMore}
+use Rattle.point_graph.proofs.homes.enter_edges.Given as goal
+
+abbrev pub invariant-loop-edge : goal.invariant-loop-edge
+invariant-loop-edge l = record {
+  enters : Enters l.graph (Joins (take l.edge-index l.edges)) l.initial.numbering.points.keys l.numbering.points.keys
+      l.initial.numbering.homes l.numbering.homes l.initial.list l.list;
+  steps : AreMore l.numbering.points.keys (Has (take l.edge-index l.edges)) l.initial.steps l.steps;
+}

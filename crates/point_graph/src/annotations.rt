@@ -1,0 +1,127 @@
+//! The forms in which nodes run, without the annotations in calls of `cast`.
+ghost use Rattle.std.specs.Prelude.{◌≡◌, IfOk, OnOk, map, unwrap_or};
+ghost use Rattle.flow_points.specs.declared.form.Form.{Form};
+ghost use Rattle.flow_forms.specs.Clauses.{kind_at};
+ghost use Rattle.point_graph.specs.Annotations.{is_plain, is_marked, without_annotation, run_forms};
+
+use flow_forms::forms;
+use flow_points::Form;
+use py_base::{List, NoMemory, NodeId, NodeKind, Tree};
+use std::alloc::Global;
+
+// Whether a node names `cast`.
+fn names_cast(casts: &[bool], node: NodeId) -> bool
+    ensures { result ≡ is_marked casts.now node }
+{
+    match casts.get(node.0 as usize) {
+        None => false,
+        Some(mark) => *mark,
+    }
+}
+
+// The kind of a node; a number that is no node's counts as a faulty line.
+fn kind_of(tree: &Tree, node: NodeId) -> NodeKind
+    ensures { result ≡ kind_at tree.now.nodes node }
+{
+    if (node.0 as usize) < tree.node_count() {
+        tree.node(node).kind
+    } else {
+        NodeKind::Fault
+    }
+}
+
+// Whether an argument of this kind stands without a star and without a keyword.
+fn stands_plain(kind: NodeKind) -> bool
+    ensures { result ≡ is_plain kind }
+{
+    !matches!(
+        kind,
+        NodeKind::Starred | NodeKind::DoubleStarred | NodeKind::Keyword
+    )
+}
+
+// A call without the annotation; `None` where it has none.
+fn call_without(
+    alloc: Global,
+    tree: &Tree,
+    casts: &[bool],
+    callee: NodeId,
+    arguments: &[NodeId],
+) -> Result<Option<Form>, NoMemory>
+    ensures { IfOk result (λ changed. unwrap_or changed (Form.Call callee arguments.now) ≡ without_annotation tree.now.nodes casts.now (Form.Call callee arguments.now)) }
+{
+    match arguments {
+        [] => Ok(None),
+        [first, more @ ..] => {
+            if names_cast(casts, callee) && stands_plain(kind_of(tree, *first)) {
+                let rest = Vec::from_slice(alloc, more)?;
+                Ok(Some(Form::Call(callee, List::from_vec(rest))))
+            } else {
+                Ok(None)
+            }
+        }
+    }
+}
+
+// The form of a call of `cast` without the annotation; `None` where there is none.
+fn changed(
+    alloc: Global,
+    tree: &Tree,
+    casts: &[bool],
+    form: &Form,
+) -> Result<Option<Form>, NoMemory>
+    ensures { IfOk result (λ changed. unwrap_or changed form.now ≡ without_annotation tree.now.nodes casts.now form.now) }
+{
+    match form {
+        Form::Call(callee, arguments) => {
+            call_without(alloc, tree, casts, *callee, arguments.as_slice())
+        }
+        Form::CallOver(callee, _, _) => {
+            if names_cast(casts, *callee) {
+                Ok(Some(Form::Call(*callee, List::new(alloc))))
+            } else {
+                Ok(None)
+            }
+        }
+        _ => Ok(None),
+    }
+}
+
+// Leaves the annotation out of a form.
+fn leave_out(alloc: Global, tree: &Tree, casts: &[bool], form: &mut Form) -> Result<(), NoMemory>
+    ensures { OnOk result (form.new ≡ without_annotation tree.now.nodes casts.now form.old) }
+{
+    match changed(alloc, tree, casts, form)? {
+        None => Ok(()),
+        Some(call) => {
+            *form = call;
+            Ok(())
+        }
+    }
+}
+
+// Leaves the annotations out of all forms.
+fn leave_out_all(
+    alloc: Global,
+    tree: &Tree,
+    casts: &[bool],
+    forms: &mut [Form],
+) -> Result<(), NoMemory>
+    ensures { OnOk result (forms.new ≡ map (without_annotation tree.now.nodes casts.now) forms.old) }
+{
+    for form in forms.iter_mut() {
+        leave_out(alloc, tree, casts, form)?;
+    }
+    Ok(())
+}
+
+/// The form in which each node of a tree runs, in the order of their numbers, where `casts` says for each
+/// node whether it names `cast`; one that it has no place for doesn't. `NoMemory` where they could not be
+/// stored.
+pub fn forms_that_run(alloc: Global, tree: &Tree, casts: &[bool]) -> Result<List<Form>, NoMemory>
+    ensures { IfOk result (λ list. list ≡ run_forms tree.now casts.now) }
+{
+    let mut list = forms(alloc, tree)?.into_vec();
+    leave_out_all(alloc, tree, casts, list.as_mut_slice())?;
+    Ok(List::from_vec(list))
+}
