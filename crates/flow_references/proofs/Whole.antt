@@ -1,0 +1,59 @@
+-- The whole table is right, by its parts.
+use Rattle.std.proofs.Common.{◌≡◌, ℕ, ◌-◌, ◌^◌, min, List, Bool, Option, Some, slice_get, length, subst, sym, ap, ◌∙◌}
+use Rattle.py_base.specs.declared.ids.NodeId.{NodeId}
+use Rattle.py_base.specs.declared.ids.RefId.{RefId}
+use Rattle.py_base.specs.Tree.{Arena}
+use Rattle.py_scopes.specs.declared.owner.Owner.{Owner}
+use Rattle.flow_points.specs.declared.form.Form.{Form}
+use Rattle.flow_forms.specs.Forms.{forms_of}
+use Rattle.point_graph.specs.Graph.{Numbered, points_or}
+use Rattle.node_references.specs.declared.referred.NodeReferences.{NodeReferences}
+use Rattle.node_references.specs.Numbers.{AreNodeReferences}
+use Rattle.node_references.specs.Numbering.{AreKnown}
+use Rattle.flow_references.specs.declared.binding.NodeMarks.{NodeMarks}
+use Rattle.flow_references.specs.Targets.{bound_nodes, spelled_nodes}
+use Rattle.flow_references.specs.Bindings.{run_nodes}
+use Rattle.flow_references.specs.Numbering.{AreMarks, read_by, binding_id, running_by, AreRunning, test_by, AreSubjects, IsTable}
+use Rattle.flow_references.specs.Table.{AreOccurring, sizes, AreReferences}
+use Rattle.flow_references.proofs.Marking.{reads_right, bindings_right}
+use Rattle.flow_references.proofs.Subjecting.{running_right, tests_right}
+
+-- `seen_*` is what a call saw of a part of the table
+pub references_right : (a : Arena) (os : List Owner) (g : Numbered) (nodes : NodeReferences) (marks : NodeMarks) (reads : List (Option RefId))
+    (bindings : List (Option (RefId × NodeId))) (subjects : List (Option NodeId)) (tests : List (Option RefId)) (graphs : List (List RefId)) (size : ℕ)
+    (table : List (Option RefId)) (seen_bound : List Bool) (forms : List Form) (count : ℕ) (seen_subjects : List (Option NodeId)) (seen_reads : List (Option RefId))
+    (seen_bindings : List (Option (RefId × NodeId))) (seen_graphs : List (List RefId)) (run : List Bool) (running seen_running : List (Option RefId))
+    → AreNodeReferences a os nodes → table ≡ nodes.numbers
+    → AreMarks (run_nodes g.points) (length a.nodes) marks.run → AreMarks (bound_nodes a) (length a.nodes) marks.bound → AreMarks (spelled_nodes a) (length a.nodes) marks.spelled
+    → IsTable (λ (i : ℕ). read_by a.nodes marks.run marks.bound marks.spelled table (record { 0 = i })) (length a.nodes) reads
+    → seen_bound ≡ marks.bound → IsTable (λ (i : ℕ). binding_id a.nodes seen_bound table (slice_get g.points i)) (length g.points) bindings
+    → forms ≡ forms_of a → count ≡ length a.nodes → AreSubjects forms count subjects
+    → run ≡ marks.run → IsTable (running_by run table) (length a.nodes) running
+    → seen_subjects ≡ subjects → seen_running ≡ running
+    → IsTable (λ (i : ℕ). test_by a marks.run marks.bound marks.spelled seen_subjects seen_running (record { 0 = i })) (length a.nodes) tests
+    → seen_reads ≡ reads → seen_bindings ≡ bindings → length graphs ≡ length a.nodes
+    → ((n : ℕ) (refs : List RefId) → slice_get graphs n ≡ Some refs → AreOccurring g.points seen_reads seen_bindings (points_or (slice_get g.graphs n)) refs)
+    → seen_graphs ≡ graphs → size ≡ min (sizes g 0 seen_graphs) (2 ^ 64 - 1)
+    → AreReferences a os g (record { list = nodes.list; reads = reads; bindings = bindings; tests = tests; graphs = graphs; size = size })
+references_right a os g nodes marks reads bindings subjects tests graphs size table seen_bound forms count seen_subjects seen_reads seen_bindings seen_graphs run running seen_running
+    right numbered runs bounds spells read bounded bind formed counted sub ran mask subjected masked test readed binded long occur graphed sized =
+    let known : AreKnown a os nodes.list table = subst (λ (l : List (Option RefId)). AreKnown a os nodes.list l) (sym numbered) right.exact in
+    let run_known : AreRunning a os g.points nodes.list running =
+    running_right a os g.points nodes.list table running marks.run known (ap (λ (l : List (Option RefId)). length l) numbered ∙ right.long) runs
+    (subst (λ (m : List Bool). IsTable (running_by m table) (length a.nodes) running) ran mask) in
+    record {
+      apart = right.apart;
+      reads = reads_right a os g.points nodes.list table marks.run marks.bound marks.spelled reads known runs bounds spells read;
+      bindings = bindings_right a os g.points nodes.list table marks.bound bindings known bounds
+          (subst (λ (b : List Bool). IsTable (λ (i : ℕ). binding_id a.nodes b table (slice_get g.points i)) (length g.points) bindings) bounded bind);
+      tests = tests_right a os g.points nodes.list running marks.run marks.bound marks.spelled subjects tests run_known runs bounds spells
+          (subst (λ (k : ℕ). AreSubjects (forms_of a) k subjects) counted (subst (λ (l : List Form). AreSubjects l count subjects) formed sub))
+          (subst (λ (l : List (Option RefId)). IsTable (λ (i : ℕ). test_by a marks.run marks.bound marks.spelled subjects l (record { 0 = i })) (length a.nodes) tests) masked
+          (subst (λ (s : List (Option NodeId)). IsTable (λ (i : ℕ). test_by a marks.run marks.bound marks.spelled s seen_running (record { 0 = i })) (length a.nodes) tests) subjected test));
+      count = long;
+      graphs = subst (λ (b : List (Option (RefId × NodeId))). (n : ℕ) (refs : List RefId) → slice_get graphs n ≡ Some refs
+          → AreOccurring g.points reads b (points_or (slice_get g.graphs n)) refs) binded
+          (subst (λ (l : List (Option RefId)). (n : ℕ) (refs : List RefId) → slice_get graphs n ≡ Some refs
+          → AreOccurring g.points l seen_bindings (points_or (slice_get g.graphs n)) refs) readed occur);
+      size = sized ∙ ap (λ (l : List (List RefId)). min (sizes g 0 l) (2 ^ 64 - 1)) graphed;
+    }

@@ -1,0 +1,5 @@
+pub mod Targets
+pub mod Bindings
+pub mod Tests
+pub mod Numbering
+pub mod Table
