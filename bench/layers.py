@@ -17,7 +17,7 @@ import layer_texts
 TOP = Path(__file__).resolve().parent.parent
 PROGRAM = sys.argv[1] if len(sys.argv) > 1 else str(TOP / "crates/layer_counts/out/layer_counts")
 REPEATS = 5
-BELOW = {"expressions": "lines", "module": "lines", "scopes": "module"}
+BELOW = {"expressions": "lines", "module": "lines", "scopes": "module", "flow": "scopes"}
 # A layer, a text of bench/layer_texts.py, and half of its size.
 ROWS = [
     ("expressions", "list_line", 100000),
@@ -42,6 +42,11 @@ ROWS = [
     ("scopes", "sibling_scopes", 5000),
     ("scopes", "nested_scopes", 3500),
     ("scopes", "nonlocals", 4000),
+    ("flow", "ordinary_code", 262144),
+    ("flow", "statements", 10000),
+    ("flow", "calls_under_handlers", 2000),
+    ("flow", "ifs", 5000),
+    ("flow", "comprehension", 60),
 ]
 
 

@@ -1,8 +1,10 @@
 //! One line of counts for each layer.
+ghost use Rattle.std.specs.Prelude.{◌≡◌, length};
 
+use flow_graph::build;
 use py_base::{List, NoMemory, Node, NodeKind, Span, Tree, Word};
 use py_exprs::expression;
-use py_scopes::scopes;
+use py_scopes::{Scopes, scopes};
 use py_stmts::blocks;
 use py_tokens::{Cut, cut};
 use std::alloc::Global;
@@ -110,5 +112,24 @@ fn module(rt: HostRuntime, layer: &str, cut: &Cut) -> io::Result<()> {
     let Ok(scopes) = scopes(alloc, &module.tree) else {
         return println!(rt; "no memory");
     };
-    println!(rt; "symbols {}", scopes.symbols())
+    println!(rt; "symbols {}", scopes.symbols())?;
+    if layer == "scopes" {
+        return Ok(());
+    }
+    flow(rt, &module.tree, &scopes)
+}
+
+// Prints what the flow graphs of a tree have.
+fn flow(rt: HostRuntime, tree: &Tree, scopes: &Scopes) -> io::Result<()>
+    requires { length scopes.now.owners ≡ length tree.now.nodes }
+{
+    match build(rt.alloc(), tree, scopes) {
+        Ok(graph) => println!(rt;
+            "points {} references {} size {}",
+            graph.len(),
+            graph.reference_count(),
+            graph.size()
+        ),
+        Err(NoMemory) => println!(rt; "no memory"),
+    }
 }

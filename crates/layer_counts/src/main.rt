@@ -2,8 +2,8 @@
 //!
 //! The text is standard input, and the word behind the program's name says how far it goes:
 //! `lines` (logical lines and tokens), `expressions` (each line read as an expression), `module` (the
-//! module of the text) and `scopes` (its symbols). `nodes` and `names`
-//! take no text, but a number: so many nodes are added to a tree, or so many names.
+//! module of the text), `scopes` (its symbols) and `flow` (the points and references of its graphs).
+//! `nodes` and `names` take no text, but a number: so many nodes are added to a tree, or so many names.
 //!
 //! Its answers are tested, not proved: they are counts of what the layers below are proved to give.
 #![tactic(auto)]
@@ -16,7 +16,7 @@ fn main(rt: HostRuntime) -> io::Result<()> {
     let mut words = env::args(&rt)?.skip(1);
     let Some(layer) = words.next() else {
         return println!(rt;
-            "layer_counts: usage: lines, expressions, module, scopes, nodes N, names N"
+            "layer_counts: usage: lines, expressions, module, scopes, flow, nodes N, names N"
         );
     };
     let number = match words.next() {
