@@ -5,7 +5,6 @@ use Rattle.std.specs.Prelude.{◌≡◌, ◌==◌, ◌<◌, ◌≤◌, ℕ, Bool
 use Rattle.std.specs.List.{list_any, slice_split}
 use Rattle.edge_io.specs.declared.line.Line.{Line}
 use Rattle.edge_io.specs.declared.line.Line.TheVariants.{Bytes, Oversize}
-use Rattle.edge_io.specs.declared.line.TheConstants.{LINE_LIMIT}
 
 -- the byte is an LF
 abbrev pub is_lf : ℕ → Bool
@@ -34,7 +33,11 @@ lines_in at_end (part ∷ next ∷ parts) = part ∷ lines_in at_end (next ∷ p
 abbrev pub lines_of : Bool → List ℕ → List (List ℕ)
 lines_of at_end bytes = lines_in at_end (slice_split is_lf bytes)
 
+-- a line has at most so many bytes, 4 MiB; a longer one is told, not kept
+abbrev pub line_limit : ℕ
+line_limit = 4194304
+
 -- the line stands for these bytes: they are kept, or are too many for that
 abbrev pub IsLineOf : Line → List ℕ → Type 0
-IsLineOf (Bytes kept) bytes = (kept ≡ bytes) × (length bytes ≤ LINE_LIMIT)
-IsLineOf Oversize bytes = LINE_LIMIT < length bytes
+IsLineOf (Bytes kept) bytes = (kept ≡ bytes) × (length bytes ≤ line_limit)
+IsLineOf Oversize bytes = line_limit < length bytes

@@ -13,7 +13,6 @@ use Rattle.py_tokens.specs.LogicalLines.{logical_lines}
 use Rattle.pyflow.specs.Forms.{form_of}
 use Rattle.pyflow.specs.LineFaults.{line_fault}
 use Rattle.pyflow.specs.Typing.{typing_diags}
-use Rattle.pyflow.specs.declared.listing.TheConstants.{TEXT_LIMIT}
 
 -- line and column of the beginning of a span, and then of its end
 abbrev pub four_numbers : Place → Place → List ℕ
@@ -38,8 +37,8 @@ lines_list at None lines = typing_diags at (filter_map form_of lines)
 abbrev pub list_of_lines : (Span → List ℕ) → List LogicalLine → List Diag
 list_of_lines at lines = lines_list at (find (λ line. is_none (form_of line)) lines) lines
 
--- the list of a text of these bytes
+-- the list of a text of these bytes, of which there are at most 524,288
 unfoldable pub list_of : List ℕ → List Diag
 list_of text =
-    if nat_lt TEXT_LIMIT (length text) then too_long ∷ []
+    if nat_lt 524288 (length text) then too_long ∷ []
     else list_of_lines (at_of (line_lengths (chars text))) (logical_lines (chars text))

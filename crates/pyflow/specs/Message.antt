@@ -5,8 +5,7 @@ use Rattle.std.specs.Str.{bytes_eq, is_utf8}
 use Rattle.serde_json.specs.Data.{Data}
 use Rattle.serde_json.specs.Read.{read}
 use Rattle.serde_json.specs.Find.{get, as_str, as_number, as_u64}
-use Rattle.edge_io.specs.declared.line.TheConstants.{LINE_LIMIT}
-use Rattle.pyflow.specs.declared.message.TheConstants.{FILE_LIMIT, NUMBER_LIMIT}
+use Rattle.edge_io.specs.Line.{line_limit}
 use Rattle.pyflow.specs.declared.message.Msg.{Msg}
 use Rattle.pyflow.specs.declared.message.Msg.TheVariants.{Open, End}
 use Rattle.pyflow.specs.declared.message.LineRefusal.{LineRefusal}
@@ -23,11 +22,11 @@ where_it test (Some x) = if test x then Some x else None
 
 -- a file is named by a string of 1 to 4,096 bytes
 abbrev pub file_at : Data → Option (List ℕ)
-file_at value = where_it (λ name. nat_lt 0 (length name) && nat_le (length name) FILE_LIMIT) (string_at (codes "file") value)
+file_at value = where_it (λ name. nat_lt 0 (length name) && nat_le (length name) 4096) (string_at (codes "file") value)
 
 -- a number is one whose `as_u64` is from 0 to 4,294,967,295
 abbrev pub number_at : List ℕ → Data → Option ℕ
-number_at key value = where_it (λ n. nat_le n NUMBER_LIMIT) (option_and_then as_u64 (option_and_then as_number (get key value)))
+number_at key value = where_it (λ n. nat_le n 4294967295) (option_and_then as_u64 (option_and_then as_number (get key value)))
 
 -- the fields of `open`, tested in the order file, version, text; the first that is missing or of another form is named
 abbrev pub open_with_text : List ℕ → ℕ → Option (List ℕ) → Result Msg LineRefusal
@@ -56,4 +55,4 @@ message_of (Some value) = with_operation value (string_at (codes "op") value)
 
 -- What the bytes of a line say. A line above the limit and bytes that are no text have no reading as JSON.
 unfoldable pub read_message : List ℕ → Result Msg LineRefusal
-read_message line = if nat_lt LINE_LIMIT (length line) then Err BadJson else (if is_utf8 line then message_of (read line) else Err BadJson)
+read_message line = if nat_lt line_limit (length line) then Err BadJson else (if is_utf8 line then message_of (read line) else Err BadJson)

@@ -147,14 +147,70 @@ fn refusals(rt: HostRuntime) -> Result<(), Fail> {
     Ok(())
 }
 
+// An `open` line of so many bytes without its LF. Its text is one comment, far above the limit of a text.
+fn open_of(alloc: Global, bytes: usize) -> Result<String, Fail> {
+    let before = "{\"op\":\"open\",\"file\":\"a.py\",\"version\":0,\"text\":\"";
+    let comment = vec![in alloc; b'#'; bytes.saturating_sub(before.len()).saturating_sub(2)]?;
+    let comment = str::from_utf8(comment.as_slice()).unwrap_or("");
+    Ok(format!(in alloc; "{before}{comment}\"}}\n")?)
+}
+
+const LONG_LIST: &str =
+    "{\"file\":\"a.py\",\"kind\":\"list\",\"list\":[{\"at\":[0,0,0,0],\"rule\":\"limit\",\"text\":\"Text is longer than 524288 bytes\"}],\"version\":0}\n";
+
+#[test]
+fn a_line_at_the_limit(rt: HostRuntime) -> Result<(), Fail> {
+    let line = open_of(rt.alloc(), 4_194_304)?;
+    let outcome = run_on(rt.alloc(), &["serve"], line.as_bytes(), 4096, &[], &[])?;
+    expect(&rt, "4,194,304 bytes", &outcome, 0, LONG_LIST.as_bytes());
+    assert_eq!(rt; outcome.taken, 4_194_305);
+    Ok(())
+}
+
 #[test]
 fn a_line_above_the_limit(rt: HostRuntime) -> Result<(), Fail> {
-    let mut input = vec![in rt.alloc(); b'#'; 4_194_305]?;
-    input.push(b'\n')?;
-    input.extend_from_slice(EMPTY.as_bytes())?;
+    let line = open_of(rt.alloc(), 4_194_305)?;
+    let input = format!(in rt.alloc(); "{line}{EMPTY}")?;
     let written = format!(in rt.alloc(); "{BAD_JSON}{EMPTY_LIST}")?;
-    let outcome = run_on(rt.alloc(), &["serve"], input.as_slice(), 4096, &[], &[])?;
+    let outcome = run_on(rt.alloc(), &["serve"], input.as_bytes(), 4096, &[], &[])?;
     expect(&rt, "4,194,305 bytes", &outcome, 0, written.as_bytes());
+    Ok(())
+}
+
+// A file's name of so many bytes.
+fn name_of(alloc: Global, bytes: usize) -> Result<String, Fail> {
+    let name = vec![in alloc; b'a'; bytes]?;
+    Ok(String::from_str(alloc, str::from_utf8(name.as_slice()).unwrap_or(""))?)
+}
+
+// The session of one `open` of an empty text, and what answers it.
+fn open_and_list(alloc: Global, file: &str, version: u64) -> Result<(String, String), Fail> {
+    let line = format!(in alloc;
+        "{{\"op\":\"open\",\"file\":\"{file}\",\"version\":{version},\"text\":\"\"}}\n"
+    )?;
+    let list = format!(in alloc;
+        "{{\"file\":\"{file}\",\"kind\":\"list\",\"list\":[],\"version\":{version}}}\n"
+    )?;
+    Ok((line, list))
+}
+
+#[test]
+fn fields_at_their_limits(rt: HostRuntime) -> Result<(), Fail> {
+    let longest = name_of(rt.alloc(), 4096)?;
+    for (file, version) in [("a", 4_294_967_295), (longest.as_str(), 0)] {
+        let (line, list) = open_and_list(rt.alloc(), file, version)?;
+        let outcome = run_on(rt.alloc(), &["serve"], line.as_bytes(), 4096, &[], &[])?;
+        expect(&rt, "a field at its limit", &outcome, 0, list.as_bytes());
+    }
+    Ok(())
+}
+
+#[test]
+fn a_file_name_above_the_limit(rt: HostRuntime) -> Result<(), Fail> {
+    let name = name_of(rt.alloc(), 4097)?;
+    let (line, _list) = open_and_list(rt.alloc(), name.as_str(), 0)?;
+    let outcome = run_on(rt.alloc(), &["serve"], line.as_bytes(), 4096, &[], &[])?;
+    expect(&rt, "4,097 bytes", &outcome, 0, BAD_FILE.as_bytes());
     Ok(())
 }
 

@@ -3,7 +3,7 @@ use Rattle.std.proofs.Common.{◌≡◌, ℕ, ℤ, false, true, List, [], ◌∷
 use Rattle.std.specs.Prelude.{codes}
 use Rattle.std.specs.List.{flat_map}
 use Rattle.std.proofs.lemmas.List.{append-nil}
-use Rattle.type_terms.specs.declared.classes.TheConstants.{INT, STR}
+use Rattle.type_terms.specs.Classes.{int_class, str_class}
 use Rattle.type_terms.specs.declared.literal.Literal.{Literal}
 use Rattle.type_terms.specs.declared.literal.Literal.TheVariants as literal
 use Rattle.type_terms.specs.declared.atom.Atom.{Atom}
@@ -53,13 +53,13 @@ pieces-Lit : (m : Meaning) (value : Literal) → atom_pieces m (atom.Lit value) 
 unfolding atom_pieces
 pieces-Lit m value = rw (out-Lit value) refl
 
-apart-Int : (z : ℤ) → has (atom.Lit (literal.Int z) ∷ []) (atom.Inst INT) ≡ false
+apart-Int : (z : ℤ) → has (atom.Lit (literal.Int z) ∷ []) (atom.Inst int_class) ≡ false
 unfolding has atom_cmp
-apart-Int z = rw (key-Inst INT, key-Lit (literal.Int z)) refl
+apart-Int z = rw (key-Inst int_class, key-Lit (literal.Int z)) refl
 
-apart-Str : (t : List ℕ) → has (atom.Lit (literal.Str t) ∷ []) (atom.Inst STR) ≡ false
+apart-Str : (t : List ℕ) → has (atom.Lit (literal.Str t) ∷ []) (atom.Inst str_class) ≡ false
 unfolding has atom_cmp
-apart-Str t = rw (key-Inst STR, key-Lit (literal.Str t)) refl
+apart-Str t = rw (key-Inst str_class, key-Lit (literal.Str t)) refl
 
 apart-True : has (atom.Lit (literal.Bool true) ∷ []) (atom.Lit (literal.Bool false)) ≡ false
 unfolding has atom_cmp

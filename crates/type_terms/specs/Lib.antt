@@ -1,4 +1,5 @@
 pub mod Asked
+pub mod Classes
 pub mod Facts
 pub mod KeyOrder
 pub mod LiteralText

@@ -9,7 +9,7 @@ use Rattle.std.specs.declared.cmp.Ordering.{Ordering}
 use Rattle.py_base.specs.declared.ids.ClassId.{ClassId}
 use Rattle.type_terms.specs.declared.literal.Literal.{Literal}
 use Rattle.type_terms.specs.declared.literal.Literal.TheVariants as literal
-use Rattle.type_terms.specs.declared.classes.TheConstants.{INT, BOOL, STR, BYTES}
+use Rattle.type_terms.specs.Classes.{int_class, bool_class, str_class, bytes_class}
 use Rattle.type_terms.specs.declared.atom.Slots.{Slots}
 use Rattle.type_terms.specs.declared.atom.Slots.TheVariants.{Each, Endless, AnyArguments, Arguments}
 use Rattle.type_terms.specs.declared.atom.Atom.{Atom, fold-Atom}
@@ -18,10 +18,10 @@ use Rattle.type_terms.specs.SortKey.{SortKey, end, part, number, bit, bytes_key,
 
 -- the class of a literal's value
 abbrev pub literal_class : Literal → ClassId
-literal_class (literal.Int z) = INT
-literal_class (literal.Bool b) = BOOL
-literal_class (literal.Str t) = STR
-literal_class (literal.Bytes bs) = BYTES
+literal_class (literal.Int z) = int_class
+literal_class (literal.Bool b) = bool_class
+literal_class (literal.Str t) = str_class
+literal_class (literal.Bytes bs) = bytes_class
 literal_class (literal.Member class place) = class
 
 -- the kinds of literals, in their order

@@ -7,7 +7,7 @@ use Rattle.std.specs.List.{flat_map, filter, list_any}
 use Rattle.std.specs.Str.{bytes_eq}
 use Rattle.py_base.specs.declared.ids.ClassId.{ClassId}
 use Rattle.py_base.specs.declared.key.Key.{Key}
-use Rattle.type_terms.specs.declared.classes.TheConstants.{INT, BOOL, STR, BYTES}
+use Rattle.type_terms.specs.Classes.{int_class, bool_class, str_class, bytes_class}
 use Rattle.type_terms.specs.declared.literal.Literal.{Literal}
 use Rattle.type_terms.specs.declared.literal.Literal.TheVariants as literal
 use Rattle.type_terms.specs.declared.atom.Atom.{Atom, out-Atom}
@@ -48,10 +48,10 @@ abbrev pub in_whole : Bool → ClassId → Bool → Shown
 in_whole whole class first = if whole then (if first then Whole class else Dropped) else Itself
 
 abbrev pub literal_shown : Meaning → List Atom → Literal → Shown
-literal_shown m type (literal.Int z) = beside type INT
-literal_shown m type (literal.Bool b) = in_whole (has_bool type false && has_bool type true) BOOL (not b)
-literal_shown m type (literal.Str t) = beside type STR
-literal_shown m type (literal.Bytes bs) = beside type BYTES
+literal_shown m type (literal.Int z) = beside type int_class
+literal_shown m type (literal.Bool b) = in_whole (has_bool type false && has_bool type true) bool_class (not b)
+literal_shown m type (literal.Str t) = beside type str_class
+literal_shown m type (literal.Bytes bs) = beside type bytes_class
 literal_shown m type (literal.Member class place) = in_whole (is_whole m type class) class (place == 0)
 
 abbrev pub level_shown : Meaning → List Atom → Atom-F Atom → Shown

@@ -29,14 +29,17 @@ pub fn join_is_exact()
     ensures members { (one other : List Atom) (a : Atom) → has (union one other) a ≡ (has one a || has other a) }
 {}
 
+/// In a join of three types it is the same which two are joined first.
 pub fn join_is_associative()
     ensures { (one two three : List Atom) → union (union one two) three ≡ union one (union two three) }
 {}
 
+/// It is the same from which side two types are joined.
 pub fn join_is_commutative()
     ensures { (one other : List Atom) → union one other ≡ union other one }
 {}
 
+/// A type joined with itself is that type.
 pub fn join_is_idempotent()
     ensures { (type : List Atom) → IsType type → union type type ≡ type }
 {}

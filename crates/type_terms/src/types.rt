@@ -45,7 +45,7 @@ impl Type {
         }
     }
 
-    /// The type with one member.
+    /// The type with one member. `NoMemory` where it could not be stored.
     pub fn one(alloc: Global, atom: Atom) -> Result<Type, NoMemory>
         ensures { IfOk result (λ type. type ≡ atom ∷ []) }
     {
@@ -54,7 +54,7 @@ impl Type {
         Ok(Type { members })
     }
 
-    /// `bool`, as the set of both its literals.
+    /// `bool`, as the set of both its literals. `NoMemory` where it could not be stored.
     pub fn bools(alloc: Global) -> Result<Type, NoMemory>
         ensures { IfOk result (λ ty. ty ≡ both_bools) }
     {
@@ -69,6 +69,7 @@ impl Type {
     }
 
     /// The type whose members are the atoms of a list, which may stand in any order and more than once.
+    /// `NoMemory` where they could not be sorted.
     pub fn of(atoms: Vec<Atom>) -> Result<Type, NoMemory>
         ensures { IfOk result (λ type. type ≡ type_of atoms.items) }
     {
@@ -80,7 +81,7 @@ impl Type {
         })
     }
 
-    /// The type in a slot of a generic, as a type of its own.
+    /// The type in a slot of a generic, as a type of its own. `NoMemory` where it could not be stored.
     pub fn of_slot(alloc: Global, slot: &Items<Atom>) -> Result<Type, NoMemory>
         ensures { IfOk result (λ type. type ≡ type_of slot.now) }
     {
@@ -111,7 +112,7 @@ impl Type {
         self.members.as_slice().binary_search(atom).is_ok()
     }
 
-    /// The type whose members are those of both, in one pass over both.
+    /// The type whose members are those of both, in one pass over both. `NoMemory` where it could not be stored.
     pub fn join(&self, alloc: Global, other: &Type) -> Result<Type, NoMemory>
         ensures { IfOk result (λ joined. joined ≡ union self.now other.now) }
     {
@@ -119,7 +120,7 @@ impl Type {
         Ok(Type { members })
     }
 
-    /// An equal type of its own.
+    /// An equal type of its own. `NoMemory` where it could not be stored.
     pub fn copy(&self, alloc: Global) -> Result<Type, NoMemory>
         ensures { IfOk result (λ copy. copy ≡ self.now) }
     {

@@ -99,7 +99,7 @@ fn push_widened<F: Facts>(
 
 impl Type {
     /// The type with each int, str and bytes literal widened to its class, a bool literal to both, and a
-    /// member of an enum to all its members. Every other atom stays.
+    /// member of an enum to all its members. Every other atom stays. `NoMemory` where it could not be stored.
     pub fn widen<F: Facts>(&self, alloc: Global, facts: &F) -> Result<Type, NoMemory>
         ensures { IfOk result (λ wide. wide ≡ spec.widen (F.names facts.now) self.now) }
     {
