@@ -6,6 +6,7 @@ use py_base::NodeId;
 /// What an edge says of those that take it, with the node whose exit it is.
 #[derive(Clone, Copy, Debug, PartialEq, Eq, Hash)]
 pub enum EdgeKind {
+    /// Nothing: it is taken whatever came about.
     Plain,
     /// The value of the node is truthy.
     True(NodeId),

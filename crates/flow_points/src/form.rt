@@ -19,8 +19,11 @@ pub enum Form {
     Call(NodeId, List<NodeId>),
     /// A call whose one argument is a comprehension without brackets: callee, element, clauses.
     CallOver(NodeId, NodeId, List<ComprehensionClause>),
+    /// `left and right`.
     And(NodeId, NodeId),
+    /// `left or right`.
     Or(NodeId, NodeId),
+    /// `not operand`.
     Not(NodeId),
     /// Brackets around one expression.
     Group(NodeId),
@@ -36,16 +39,21 @@ pub enum Form {
     Assert(NodeId, Option<NodeId>),
     /// An `if` statement: its branches in order.
     Branches(Branch, List<Branch>),
+    /// A `while` statement.
     While(WhileForm),
+    /// A `for` statement.
     For(ForForm),
+    /// A `try` statement.
     Try(TryForm),
+    /// A `match` statement.
     Match(MatchForm),
+    /// A `case` of one.
     Case(CaseForm),
     /// A module with its statements.
     Module(List<NodeId>),
 }
 
-/// A conditional expression.
+/// A conditional expression, `value if test else other`.
 #[derive(Clone, Copy, Debug)]
 pub struct Choice {
     pub value: NodeId,
@@ -78,7 +86,7 @@ pub struct Branch {
     pub body: NodeId,
 }
 
-/// A `while` statement.
+/// A `while` statement. `otherwise` is its `else` block.
 #[derive(Clone, Copy, Debug)]
 pub struct WhileForm {
     pub test: NodeId,
@@ -86,7 +94,7 @@ pub struct WhileForm {
     pub otherwise: Option<NodeId>,
 }
 
-/// A `for` statement.
+/// A `for` statement, without `async` or with. `otherwise` is its `else` block.
 #[derive(Clone, Copy, Debug)]
 pub struct ForForm {
     pub targets: NodeId,
@@ -103,7 +111,7 @@ pub struct Handler {
     pub steps: List<NodeId>,
 }
 
-/// A `try` statement. `cleanup` is its `finally` block.
+/// A `try` statement. `otherwise` is its `else` block, and `cleanup` its `finally` block.
 #[derive(Debug, Drop)]
 pub struct TryForm {
     pub body: NodeId,

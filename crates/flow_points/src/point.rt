@@ -26,8 +26,11 @@ pub enum Role {
 /// checked one, and `2 c + 1`, the normal one; what no `finally` is around is in copy 0.
 #[derive(Clone, Copy, Debug, PartialEq, Eq, Hash)]
 pub struct Point {
+    /// The node whose point it is.
     pub node: NodeId,
+    /// Which of the node's points.
     pub role: Role,
+    /// In which copy of the `finally` blocks around the node, from 0 to 15.
     pub copy: u32,
 }
 

@@ -13,13 +13,17 @@ pub enum Channel {
     Yes,
     /// A condition that doesn't.
     No,
+    /// A `break`.
     Break,
+    /// A `continue`.
     Continue,
+    /// A `return`.
     Return,
+    /// An exception: a `raise`, a failing `assert`, or a call that may raise.
     Raise,
 }
 
-/// A point from which a form is left by a channel.
+/// A point from which a form is left by a channel, with the kind of the edge that this makes.
 #[derive(Clone, Copy, Debug)]
 pub struct Exit {
     pub channel: Channel,
@@ -30,7 +34,9 @@ pub struct Exit {
 /// Where an exit of a part leads: to a point, or out of the form by a channel of the form's own.
 #[derive(Clone, Copy, Debug)]
 pub enum Dest {
+    /// To a point of the form.
     To(Point),
+    /// Out of the form.
     Up(Channel),
 }
 
@@ -62,7 +68,7 @@ pub enum Mode {
     Body,
 }
 
-/// A part as its form runs it.
+/// A part as its form runs it: in which copy, how, and where its exits lead.
 #[derive(Clone, Copy, Debug)]
 pub struct Kid {
     pub node: NodeId,
@@ -71,7 +77,7 @@ pub struct Kid {
     pub route: Route,
 }
 
-/// How a form flows.
+/// How a form flows: the edges of its own, its exits, and its parts.
 #[derive(Debug, Drop)]
 pub struct Row {
     pub arrows: List<Edge>,
@@ -79,10 +85,12 @@ pub struct Row {
     pub kids: List<Kid>,
 }
 
-/// Up to two places.
+/// The one or two places to which an exit leads: where a `finally` block is entered on the way, that comes first.
 #[derive(Clone, Copy, Debug)]
 pub enum Leads {
+    /// To this place alone.
     One(Dest),
+    /// To this point, and to that place.
     Two(Point, Dest),
 }
 

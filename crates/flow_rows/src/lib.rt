@@ -6,8 +6,8 @@
 //! `specs/Ends.antt`).
 //!
 //! A rule of the language is one row, in `specs/Expressions.antt` or `specs/Statements.antt`, and one
-//! function here. Rows and functions say the same: that they say what the language says is shown by the
-//! tests of `point_graph` alone, which makes the graphs. Below stand `py_base` and `flow_points`.
+//! function here. Rows and functions say the same: that they say what the language says is shown by
+//! tests alone, those of `point_graph`, which makes the graphs, and those of `source_tests`. Below stand `py_base` and `flow_points`.
 #![tactic(auto)]
 
 mod choices;
