@@ -1,4 +1,5 @@
--- The edges of a node whose exits lead to points: those within it, and one from each exit to each point that its channel reaches.
+-- The edges of a node whose exits lead to points: those within it, and one from each exit to each point that its channel reaches (for
+-- proofs alone; Python 3.12 language reference, sections 6 to 8, has the flow).
 use Rattle.std.specs.Prelude.{ℕ, ◌≡◌, ◌<◌, List, [], ◌∷◌, ◌++◌, ◌⊎◌}
 use Rattle.py_base.specs.declared.ids.NodeId.{NodeId}
 use Rattle.flow_points.specs.declared.point.Point.{Point}

@@ -1,4 +1,5 @@
--- The points of each graph of a tree, by numbers: its start first, its end, and the points that its edges join.
+-- The points of each graph of a tree, by numbers: its start first, its end, and the points that its edges join (Python 3.12 language
+-- reference, section 4.1, "Structure of a program", for what has a graph).
 use Rattle.std.specs.Prelude.{ℕ, ◌≡◌, ◌≤◌, List, Option, None, Some, slice_get, length, ◌↔◌, is_some, false, true}
 use Rattle.py_base.specs.declared.ids.NodeId.{NodeId}
 use Rattle.py_base.specs.declared.ids.GraphId.{GraphId}

@@ -209,6 +209,7 @@ fn build_from(alloc: Global, forms: &[Form], ends: &[Ends]) -> Result<PointGraph
 pub fn build(alloc: Global, tree: &Tree, casts: &[bool]) -> Result<PointGraph, NoMemory>
     ensures { IfOk result (λ g. IsGraph tree.now casts.now g) }
 {
+    // Brings what always holds of a tree, that its nodes are few, into the proof.
     let _count = tree.node_count();
     let forms = forms_that_run(alloc, tree, casts)?;
     let ends = ends_of_forms(alloc, forms.as_slice())?;
