@@ -10,7 +10,7 @@ ghost use Rattle.cast_calls.specs.Casts.{is_spelled, is_name_of, items, item, bo
 ghost use Rattle.cast_calls.specs.Marks.{AreMarks};
 
 use crate::marks::{mark, unmarked};
-use node_references::{kind_of, parts_of};
+use flow_forms::{kind_of, parts_of};
 use py_base::{List, NameId, NoMemory, Node, NodeId, NodeKind, Tree, Word};
 use std::alloc::Global;
 

@@ -27,7 +27,7 @@ pub fn node_at(tree: &Tree, node: NodeId) -> Option<&Node>
     }
 }
 
-/// The kind of a node.
+/// The kind of a node. A number that is no node's counts as a faulty line.
 pub fn kind_of(tree: &Tree, node: NodeId) -> NodeKind
     ensures { result ≡ kind_at tree.now.nodes node }
 {
@@ -37,7 +37,7 @@ pub fn kind_of(tree: &Tree, node: NodeId) -> NodeKind
     }
 }
 
-/// The parts of a node.
+/// The parts of a node, none for a number that is no node's.
 pub fn parts_of(tree: &Tree, node: NodeId) -> &[NodeId]
     ensures { result.now ≡ parts_at tree.now.nodes node }
 {

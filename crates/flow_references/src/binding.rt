@@ -1,13 +1,14 @@
 //! What is read at nodes, and what points bind.
 ghost use Rattle.std.specs.Prelude.{◌≡◌, ℕ, ◌<◌, ◌^◌, ◌++◌, IfOk, OnOk, slice_get, length};
-ghost use Rattle.flow_forms.specs.Clauses.{first_or, kind_at, parts_at};
+ghost use Rattle.flow_forms.specs.Clauses.{kind_at, parts_at};
 ghost use Rattle.flow_references.specs.Bindings.{run_at, run_nodes, binds_itself, subject_of, own_binder, end_binder, binder_by};
 ghost use Rattle.flow_references.specs.Numbering.{run_of, is_read_by, read_by, id_of, binding_id, IsTable};
 
 use crate::marks::is_marked;
 use crate::targets::is_place;
+use flow_forms::{first_else, kind_of, parts_of};
 use flow_points::{Point, Role};
-use node_references::{at, kind_of, parts_of};
+use node_references::at;
 use point_graph::PointGraph;
 use py_base::{List, NoMemory, NodeId, NodeKind, PointId, RefId, Tree};
 use std::alloc::Global;
@@ -56,16 +57,6 @@ pub(crate) fn is_read(tree: &Tree, bound: &[bool], spelled: &[bool], node: NodeI
     ensures { result ≡ is_read_by tree.now.nodes bound.now spelled.now node }
 {
     is_place(kind_of(tree, node)) && !is_marked(bound, node) && !is_marked(spelled, node)
-}
-
-// The first of parts, and without parts the node that is given.
-fn first_else(here: NodeId, parts: &[NodeId]) -> NodeId
-    ensures { result ≡ first_or here parts.now }
-{
-    match parts {
-        [] => here,
-        [part, ..] => *part,
-    }
 }
 
 // The subject of a `match` statement.

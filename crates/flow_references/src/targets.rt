@@ -5,9 +5,8 @@ ghost use Rattle.flow_forms.specs.Forms.{forms_of};
 ghost use Rattle.flow_forms.specs.Patterns.{gather};
 ghost use Rattle.flow_references.specs.Targets.{is_place, holds_targets, held, targets, first_name, dotted, bound_part, bound_from, bound_by, captured_by, captured_of, bound_nodes, spelled_by, spelled_nodes};
 
-use flow_forms::forms;
+use flow_forms::{forms, kind_of, parts_of};
 use flow_points::Form;
-use node_references::{kind_of, parts_of};
 use py_base::{List, NoMemory, NodeId, NodeKind, Tree};
 use std::alloc::Global;
 

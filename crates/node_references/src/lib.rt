@@ -18,7 +18,7 @@ mod reference;
 mod referred;
 mod shape;
 
-pub use nodes::{kind_of, name_of, node_at, parts_of};
+pub use nodes::name_of;
 pub use reference::{Reference, Root};
 pub use referred::{NodeReferences, at, node_references};
 pub use shape::{Shape, shape_of};

@@ -7,10 +7,11 @@ ghost use Rattle.node_references.specs.References.{of_owner, of_attribute, by_sh
 ghost use Rattle.node_references.specs.Numbers.{flat, IsNumberOf, AreNodeReferences};
 ghost use Rattle.node_references.specs.Numbering.{Keeps, AreLinked, AreNumbersOf, IsBelow, IsPartBelow, AreKnown};
 
-use crate::nodes::{kind_of, name_of, parts_of};
+use crate::nodes::name_of;
 use crate::numbering::{Link, Numbering, number};
 use crate::reference::{Reference, Root};
 use crate::shape::{Shape, shape_of};
+use flow_forms::{kind_of, parts_of};
 use indexmap::IndexSet;
 use py_base::{List, NameId, NoMemory, NodeId, RefId, SymId, Tree};
 use py_scopes::{Owner, Scopes};

@@ -1,10 +1,9 @@
 //! The forms in which nodes run, without the annotations in calls of `cast`.
 ghost use Rattle.std.specs.Prelude.{◌≡◌, IfOk, OnOk, map, unwrap_or};
 ghost use Rattle.flow_points.specs.declared.form.Form.{Form};
-ghost use Rattle.flow_forms.specs.Clauses.{kind_at};
 ghost use Rattle.point_graph.specs.Annotations.{is_plain, is_marked, without_annotation, run_forms};
 
-use flow_forms::forms;
+use flow_forms::{forms, kind_of};
 use flow_points::Form;
 use py_base::{List, NoMemory, NodeId, NodeKind, Tree};
 use std::alloc::Global;
@@ -16,17 +15,6 @@ fn names_cast(casts: &[bool], node: NodeId) -> bool
     match casts.get(node.0 as usize) {
         None => false,
         Some(mark) => *mark,
-    }
-}
-
-// The kind of a node; a number that is no node's counts as a faulty line.
-fn kind_of(tree: &Tree, node: NodeId) -> NodeKind
-    ensures { result ≡ kind_at tree.now.nodes node }
-{
-    if (node.0 as usize) < tree.node_count() {
-        tree.node(node).kind
-    } else {
-        NodeKind::Fault
     }
 }
 
