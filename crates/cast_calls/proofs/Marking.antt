@@ -11,7 +11,7 @@ use Rattle.flow_forms.specs.Clauses.{kind_at, parts_at}
 use Rattle.cast_calls.specs.declared.imports.Imported.{Imported}
 use Rattle.cast_calls.specs.declared.imports.Item.{Item}
 use Rattle.cast_calls.specs.Casts.{is_name_of, item, bound_if, bound_by_item}
-use Rattle.cast_calls.specs.Marks.{AreMarks}
+use Rattle.node_references.specs.Marks.{AreMarks}
 
 -- what an item binds that imports it
 pub item_bound : (imported : Imported) (a : Arena) (n : NodeId) (i : Item) → i ≡ item n (kind_at a.nodes n) (parts_at a.nodes n) → is_name_of imported a i.imported ≡ true

@@ -1,7 +1,7 @@
 -- Which nodes name `cast` of typing, whose first argument is an annotation (Python 3.12 language reference, 7.11 for what an import binds,
 -- 6.3.1 for attributes, 6.2.3 for brackets; that a call of it takes a type first is the library reference's, in its part on typing).
 use Rattle.std.specs.Prelude.{ℕ, Bool, false, ◌&&◌, ◌||◌, Option, Some, None, List, [], ◌∷◌, map, slice_get, bytes_eq, codes, if◌then◌else◌}
-use Rattle.std.specs.List.{list_any, flat_map}
+use Rattle.std.specs.List.{flat_map}
 use Rattle.py_base.specs.declared.ids.NodeId.{NodeId}
 use Rattle.py_base.specs.declared.ids.NameId.{NameId}
 use Rattle.py_base.specs.declared.node.Node.{Node}
@@ -9,13 +9,13 @@ use Rattle.py_base.specs.declared.node.NodeKind.{NodeKind}
 use Rattle.py_base.specs.declared.node.NodeKind.TheVariants as kinds
 use Rattle.py_base.specs.Tree.{Arena}
 use Rattle.py_scopes.specs.Occurrences.{text_of, leaf_name, node_ids}
-use Rattle.py_scopes.specs.Way.{same_node}
 use Rattle.py_scopes.specs.Table.{ScopeTable}
 use Rattle.flow_forms.specs.Clauses.{kind_at, parts_at}
 use Rattle.node_references.specs.declared.reference.Root.{Root}
 use Rattle.node_references.specs.declared.reference.Root.TheVariants as roots
 use Rattle.node_references.specs.declared.reference.Reference.{Reference}
 use Rattle.node_references.specs.References.{reference_of}
+use Rattle.node_references.specs.Marks.{is_among}
 use Rattle.cast_calls.specs.declared.imports.Imported.{Imported}
 use Rattle.cast_calls.specs.declared.imports.Imported.TheVariants as imports
 use Rattle.cast_calls.specs.declared.imports.Item.{Item}
@@ -57,9 +57,6 @@ bound_by imported a node = flat_map (bound_by_item imported a) (items imported a
 -- ALL NODES THAT AN IMPORT BINDS to it
 abbrev pub imported_nodes : Imported → Arena → List NodeId
 imported_nodes imported a = flat_map (bound_by imported a) a.nodes
-
-abbrev pub is_among : List NodeId → NodeId → Bool
-is_among nodes n = list_any (same_node n) nodes
 
 -- the only binding of a symbol is one of these
 abbrev pub is_only_of : List NodeId → Option (List NodeId) → Bool

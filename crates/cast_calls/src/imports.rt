@@ -7,10 +7,10 @@ ghost use Rattle.py_scopes.specs.Occurrences.{text_of, word_name, leaf_name};
 ghost use Rattle.flow_forms.specs.Clauses.{kind_at, parts_at};
 ghost use Rattle.cast_calls.specs.declared.imports.Imported.TheVariants as imports;
 ghost use Rattle.cast_calls.specs.Casts.{is_spelled, is_name_of, items, item, bound_if, bound_by_item, bound_by, imported_nodes};
-ghost use Rattle.cast_calls.specs.Marks.{AreMarks};
+ghost use Rattle.node_references.specs.Marks.{AreMarks};
 
-use crate::marks::{mark, unmarked};
 use flow_forms::{kind_of, parts_of};
+use node_references::{mark, unmarked};
 use py_base::{List, NameId, NoMemory, Node, NodeId, NodeKind, Tree, Word};
 use std::alloc::Global;
 

@@ -12,7 +12,6 @@
 #![tactic(auto)]
 
 mod imports;
-mod marks;
 mod naming;
 
 pub use naming::casts;

@@ -8,11 +8,10 @@ ghost use Rattle.node_references.specs.References.{reference_of};
 ghost use Rattle.node_references.specs.Numbers.{AreNodeReferences};
 ghost use Rattle.cast_calls.specs.declared.imports.Imported.TheVariants as imports;
 ghost use Rattle.cast_calls.specs.Casts.{imported_nodes, is_only_of, is_root_of, is_cast_chain, names_cast, casts_of};
-ghost use Rattle.cast_calls.specs.Marks.{AreMarks};
+ghost use Rattle.node_references.specs.Marks.{AreMarks};
 
 use crate::imports::{ImportMarks, Imported, import_marks, is_spelled, text_of};
-use crate::marks::is_marked;
-use node_references::{NodeReferences, Reference, Root, at};
+use node_references::{NodeReferences, Reference, Root, at, is_marked};
 use py_base::{List, NoMemory, NodeId, SymId, Tree};
 use py_scopes::Scopes;
 use std::alloc::Global;

@@ -1,6 +1,5 @@
--- Marks of nodes, and tables by number.
-use Rattle.std.proofs.Common.{◌≡◌, ℕ, ◌+◌, ◌<◌, Bool, true, false, ◌&&◌, List, [], ◌∷◌, ◌++◌, refl, ap, arith, sym, ◌∙◌, subst, length, get_or, take, inl, inr, Option, None, Some, slice_get, slice_index_or, length-append, if◌then◌else◌}
-use Rattle.std.proofs.lemmas.List.{take_more}
+-- What is read and bound by marks, and tables by number.
+use Rattle.std.proofs.Common.{◌≡◌, ℕ, ◌+◌, Bool, true, false, ◌&&◌, List, [], ◌∷◌, ◌++◌, refl, ap, arith, sym, ◌∙◌, subst, length, inl, inr, Option, None, Some, slice_get, slice_index_or, length-append, if◌then◌else◌}
 use Rattle.std.proofs.lemmas.Bool.{cases_lt}
 use Rattle.py_base.specs.declared.ids.NodeId.{NodeId}
 use Rattle.py_base.specs.declared.ids.PointId.{PointId}
@@ -16,22 +15,15 @@ use Rattle.flow_forms.specs.Clauses.{kind_at, parts_at}
 use Rattle.node_references.specs.declared.reference.Reference.{Reference}
 use Rattle.flow_references.specs.declared.binding.Binder.{Binder}
 use Rattle.node_references.specs.References.{reference_of}
-use Rattle.flow_references.specs.Targets.{is_among, bound_nodes, spelled_nodes}
+use Rattle.node_references.specs.Marks.{is_among, AreMarks}
+use Rattle.flow_references.specs.Targets.{bound_nodes, spelled_nodes}
 use Rattle.flow_references.specs.Bindings.{run_nodes, is_read, read, binder_by, binder_at, bound_to, bound_by_binder, binding}
 use Rattle.node_references.specs.Numbers.{flat, IsNumberOf}
 use Rattle.flow_references.specs.Table.{IsBindingOf}
 use Rattle.node_references.specs.Numbering.{AreKnown}
-use Rattle.flow_references.specs.Numbering.{AreMarks, is_read_by, read_by, with_node, id_of, binding_id, IsTable}
+use Rattle.flow_references.specs.Numbering.{is_read_by, read_by, with_node, id_of, binding_id, IsTable}
 use Rattle.node_references.proofs.Within.{get_old, get_none, lt_suc}
 use Rattle.node_references.proofs.Links.{get_last}
-
-abbrev pub no_node : NodeId
-no_node = record { 0 = 0 }
-
--- one more mark
-pub mark_next : (nodes : List NodeId) (i count : ℕ) (marks : List Bool) → i < length nodes
-    → AreMarks (take i nodes ++ get_or nodes i no_node ∷ []) count marks → AreMarks (take (i + 1) nodes) count marks
-mark_next nodes i count marks lt h = subst (λ (l : List NodeId). AreMarks l count marks) (sym (take_more nodes i no_node lt)) h
 
 -- one more row
 pub table_more : {A : Type 0} (f : ℕ → A) (n : ℕ) (list new : List A) (x : A) → IsTable f n list → new ≡ list ++ x ∷ [] → x ≡ f n → IsTable f (n + 1) new

@@ -19,12 +19,13 @@ use Rattle.flow_points.specs.declared.form.Form.{Form}
 use Rattle.flow_forms.specs.Forms.{forms_of}
 use Rattle.node_references.specs.declared.reference.Reference.{Reference}
 use Rattle.node_references.specs.References.{reference_of}
-use Rattle.flow_references.specs.Targets.{is_among, bound_nodes, spelled_nodes}
+use Rattle.node_references.specs.Marks.{is_among, AreMarks}
+use Rattle.flow_references.specs.Targets.{bound_nodes, spelled_nodes}
 use Rattle.flow_references.specs.Bindings.{run_nodes, is_read}
 use Rattle.flow_references.specs.Tests.{seen, kind_seen, parts_seen, named_in, tested_by_place, when, or_else, is_singleton, is_value, is_display, is_chain, is_name_kind, is_class_test, only_argument, class_tested, place_or, call_tests, type_argument, type_tests, is_tests, equal_tests, operator_tests, comparison_tests, subject_in, subject_among, subject_or, Testing, a_place, a_named, a_comparison, a_call, a_case, no_test, testing, form_tests, node_tests, running_reference, tested}
 use Rattle.node_references.specs.Numbers.{flat, IsNumberOf}
 use Rattle.node_references.specs.Numbering.{AreKnown}
-use Rattle.flow_references.specs.Numbering.{AreMarks, AreSubjects, subject_if, IsPut, is_read_by, running_by, AreRunning, test_by, IsTable}
+use Rattle.flow_references.specs.Numbering.{AreSubjects, subject_if, IsPut, is_read_by, running_by, AreRunning, test_by, IsTable}
 use Rattle.node_references.proofs.Within.{get_none}
 
 or_none : {A : Type 0} (x : Option A) → or_else x None ≡ x

@@ -13,7 +13,8 @@ use Rattle.node_references.specs.Numbering.{AreKnown}
 use Rattle.flow_references.specs.declared.binding.NodeMarks.{NodeMarks}
 use Rattle.flow_references.specs.Targets.{bound_nodes, spelled_nodes}
 use Rattle.flow_references.specs.Bindings.{run_nodes}
-use Rattle.flow_references.specs.Numbering.{AreMarks, read_by, binding_id, running_by, AreRunning, test_by, AreSubjects, IsTable}
+use Rattle.node_references.specs.Marks.{AreMarks}
+use Rattle.flow_references.specs.Numbering.{read_by, binding_id, running_by, AreRunning, test_by, AreSubjects, IsTable}
 use Rattle.flow_references.specs.Table.{AreOccurring, sizes, AreReferences}
 use Rattle.flow_references.proofs.Marking.{reads_right, bindings_right}
 use Rattle.flow_references.proofs.Subjecting.{running_right, tests_right}

@@ -14,7 +14,8 @@ use Rattle.flow_forms.specs.Clauses.{kind_at, parts_at, first_or}
 use Rattle.node_references.specs.declared.reference.Reference.{Reference}
 use Rattle.flow_references.specs.declared.binding.Binder.{Binder}
 use Rattle.node_references.specs.References.{reference_of}
-use Rattle.flow_references.specs.Targets.{is_place, is_among, bound_nodes, spelled_nodes}
+use Rattle.node_references.specs.Marks.{is_among}
+use Rattle.flow_references.specs.Targets.{is_place, bound_nodes, spelled_nodes}
 
 -- the nodes that run themselves, each for each of its copies
 abbrev pub run_at : Role → NodeId → List NodeId

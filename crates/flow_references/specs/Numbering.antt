@@ -11,13 +11,10 @@ use Rattle.py_scopes.specs.declared.owner.Owner.{Owner}
 use Rattle.node_references.specs.declared.reference.Reference.{Reference}
 use Rattle.node_references.specs.Numbers.{flat, IsNumberOf}
 use Rattle.flow_references.specs.declared.binding.Binder.{Binder}
-use Rattle.flow_references.specs.Targets.{is_place, is_among}
+use Rattle.node_references.specs.Marks.{is_among}
+use Rattle.flow_references.specs.Targets.{is_place}
 use Rattle.flow_references.specs.Bindings.{run_at, binder_by}
 use Rattle.flow_references.specs.Tests.{when, or_else, subject_in, subject_among, node_tests, running_reference}
-
--- for each node before a number whether it is one of these
-abbrev pub AreMarks : List NodeId → ℕ → List Bool → Type 0
-AreMarks nodes count marks = (length marks ≡ count) × ((n : NodeId) → n.0 < count → slice_index_or marks n.0 false ≡ is_among nodes n)
 
 -- the node of a point that is the node's own
 abbrev pub run_of : Option Point → List NodeId

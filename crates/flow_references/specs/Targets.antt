@@ -1,14 +1,12 @@
 -- Which nodes a module binds (Python 3.12 language reference, 4.2.1, "Binding of names"; 7.2 for targets, 7.5 for `del`, 7.11 for
 -- imports, 8.6 for captures): names, and the attributes that are targets.
 use Rattle.std.specs.Prelude.{ℕ, zero, suc, Bool, true, false, List, [], ◌∷◌, ◌++◌, length, if◌then◌else◌}
-use Rattle.std.specs.List.{list_any}
 use Rattle.py_base.specs.declared.ids.NodeId.{NodeId}
 use Rattle.py_base.specs.declared.node.Node.{Node}
 use Rattle.py_base.specs.declared.node.NodeKind.{NodeKind}
 use Rattle.py_base.specs.declared.node.NodeKind.TheVariants as kinds
 use Rattle.py_base.specs.Tree.{Arena}
 use Rattle.py_scopes.specs.Kinds.{binds_part}
-use Rattle.py_scopes.specs.Way.{same_node}
 use Rattle.flow_points.specs.declared.form.Form.{Form}
 use Rattle.flow_points.specs.declared.form.Form.TheVariants as forms
 use Rattle.flow_forms.specs.Clauses.{kind_at, parts_at}
@@ -100,7 +98,3 @@ spelled_by nodes kind parts = []
 -- ALL ATTRIBUTES THAT ONLY SPELL the name of a module
 abbrev pub spelled_nodes : Arena → List NodeId
 spelled_nodes a = gather_nodes (λ (node : Node). spelled_by a.nodes node.kind node.parts) a.nodes
-
--- a node is one of these
-abbrev pub is_among : List NodeId → NodeId → Bool
-is_among list n = list_any (same_node n) list

@@ -24,7 +24,7 @@ use Rattle.node_references.specs.declared.reference.Reference.{Reference}
 use Rattle.node_references.specs.declared.shape.Shape.{Shape}
 use Rattle.node_references.specs.declared.shape.Shape.TheVariants as shapes
 use Rattle.node_references.specs.References.{shape, reference_of}
-use Rattle.flow_references.specs.Targets.{is_among}
+use Rattle.node_references.specs.Marks.{is_among}
 use Rattle.flow_references.specs.Bindings.{run_nodes, is_read}
 
 -- what stands in brackets, down to a depth

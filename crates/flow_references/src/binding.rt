@@ -4,11 +4,10 @@ ghost use Rattle.flow_forms.specs.Clauses.{kind_at, parts_at};
 ghost use Rattle.flow_references.specs.Bindings.{run_at, run_nodes, binds_itself, subject_of, own_binder, end_binder, binder_by};
 ghost use Rattle.flow_references.specs.Numbering.{run_of, is_read_by, read_by, id_of, binding_id, IsTable};
 
-use crate::marks::is_marked;
 use crate::targets::is_place;
 use flow_forms::{first_else, kind_of, parts_of};
 use flow_points::{Point, Role};
-use node_references::at;
+use node_references::{at, is_marked};
 use point_graph::PointGraph;
 use py_base::{List, NoMemory, NodeId, NodeKind, PointId, RefId, Tree};
 use std::alloc::Global;

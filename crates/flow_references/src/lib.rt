@@ -21,7 +21,6 @@
 mod binding;
 mod build;
 mod graphs;
-mod marks;
 mod subjects;
 mod table;
 mod targets;

@@ -4,10 +4,9 @@ ghost use Rattle.flow_references.specs.Tests.{subject_in};
 ghost use Rattle.flow_references.specs.Numbering.{AreSubjects, IsPut, IsPutBy, running_by, test_by, IsTable};
 
 use crate::binding::{NodeMarks, is_read};
-use crate::marks::is_marked;
 use crate::tested::node_tests;
 use flow_points::Form;
-use node_references::at;
+use node_references::{at, is_marked};
 use py_base::{List, NoMemory, NodeId, RefId, Tree};
 use std::alloc::Global;
 

@@ -1,2 +1,3 @@
 pub mod Links
+mod Marking
 pub mod Within

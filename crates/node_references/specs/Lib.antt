@@ -1,3 +1,4 @@
+pub mod Marks
 pub mod References
 pub mod Numbers
 pub mod Numbering

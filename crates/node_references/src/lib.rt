@@ -12,12 +12,14 @@
 //! there are at most 256.
 #![tactic(auto)]
 
+mod marks;
 mod nodes;
 mod numbering;
 mod reference;
 mod referred;
 mod shape;
 
+pub use marks::{is_marked, mark, marked, unmarked};
 pub use nodes::name_of;
 pub use reference::{Reference, Root};
 pub use referred::{NodeReferences, at, node_references};

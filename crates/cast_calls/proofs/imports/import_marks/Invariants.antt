@@ -2,7 +2,7 @@ use Rattle.std.proofs.Common.{take}
 use Rattle.std.specs.List.{flat_map}
 use Rattle.cast_calls.specs.declared.imports.Imported.TheVariants as imports
 use Rattle.cast_calls.specs.Casts.{bound_by}
-use Rattle.cast_calls.specs.Marks.{AreMarks}
+use Rattle.node_references.specs.Marks.{AreMarks}
 use Rattle.cast_calls.proofs.imports.import_marks.Given as goal
 
 abbrev pub invariant-loop-place : goal.invariant-loop-place

@@ -2,7 +2,7 @@ use Rattle.std.proofs.Common.{◌∙◌, ◌++◌, List, ap, subst}
 use Rattle.std.specs.List.{flat_map}
 use Rattle.py_base.specs.declared.ids.NodeId.{NodeId}
 use Rattle.cast_calls.specs.Casts.{items, bound_by_item}
-use Rattle.cast_calls.specs.Marks.{AreMarks}
+use Rattle.node_references.specs.Marks.{AreMarks}
 use Rattle.cast_calls.proofs.imports.mark_bound.Goals as goal
 
 pub returns : goal.returns

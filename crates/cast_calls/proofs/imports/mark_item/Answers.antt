@@ -1,6 +1,6 @@
 use Rattle.std.proofs.Common.{◌∙◌, ◌++◌, List, sym, subst}
 use Rattle.py_base.specs.declared.ids.NodeId.{NodeId}
-use Rattle.cast_calls.specs.Marks.{AreMarks}
+use Rattle.node_references.specs.Marks.{AreMarks}
 use Rattle.cast_calls.proofs.Marking.{item_bound}
 use Rattle.cast_calls.proofs.imports.mark_item.Goals as goal
 

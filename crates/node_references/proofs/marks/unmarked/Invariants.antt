@@ -1,5 +1,5 @@
 use Rattle.std.proofs.Common.{◌≡◌, ℕ, length, false, slice_index_or}
-use Rattle.cast_calls.proofs.marks.unmarked.Given as goal
+use Rattle.node_references.proofs.marks.unmarked.Given as goal
 
 abbrev pub invariant-loop : goal.invariant-loop
 invariant-loop l = record {
