@@ -47,7 +47,8 @@ pub fn parts_of(tree: &Tree, node: NodeId) -> &[NodeId]
     }
 }
 
-fn does_nothing(kind: NodeKind) -> bool
+// Whether a part of this kind doesn't run.
+fn is_silent(kind: NodeKind) -> bool
     ensures { result ≡ is_silent kind }
 {
     matches!(
@@ -68,7 +69,7 @@ pub fn add_running(tree: &Tree, parts: &[NodeId], list: &mut List<NodeId>) -> Re
     ensures { OnOk result (list.new ≡ list.old ++ running tree.now.nodes parts.now) }
 {
     for part in parts {
-        if !does_nothing(kind_of(tree, *part)) {
+        if !is_silent(kind_of(tree, *part)) {
             list.push(*part)?;
         }
     }

@@ -4,7 +4,7 @@ ghost use Rattle.flow_forms.specs.Forms.{test_of, branch_of, if_form, else_or, e
 ghost use Rattle.flow_forms.specs.Patterns.{captures, values};
 
 use crate::clauses::{Clause, add_running, first_else, parts_of, running_parts, second_else};
-use crate::patterns::{HEIGHT, add_captures, add_values};
+use crate::patterns::{TREE_HEIGHT, add_captures, add_values};
 use flow_points::{Branch, CaseForm, ForForm, Form, Handler, MatchForm, TryForm, WhileForm};
 use py_base::{List, NoMemory, NodeId, NodeKind, Tree};
 use std::alloc::Global;
@@ -200,9 +200,9 @@ pub fn form_of_case(alloc: Global, tree: &Tree, clauses: &[Clause]) -> Result<Fo
         [clause, ..] => {
             let pattern = first_else(clause.header, clause.parts.as_slice());
             let mut values = List::new(alloc);
-            add_values(tree, pattern, HEIGHT, &mut values)?;
+            add_values(tree, pattern, TREE_HEIGHT, &mut values)?;
             let mut captures = List::new(alloc);
-            add_captures(tree, pattern, HEIGHT, &mut captures)?;
+            add_captures(tree, pattern, TREE_HEIGHT, &mut captures)?;
             Ok(Form::Case(CaseForm {
                 values,
                 captures,

@@ -18,4 +18,5 @@ mod simple;
 mod tree_forms;
 
 pub use clauses::{Clause, first_else, kind_of, node_at, parts_of};
+pub use patterns::TREE_HEIGHT;
 pub use tree_forms::forms;

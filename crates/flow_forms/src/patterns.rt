@@ -5,8 +5,8 @@ ghost use Rattle.flow_forms.specs.Patterns.{gather, is_underscore, is_wildcard, 
 use crate::clauses::{behind_first, kind_of, node_at, parts_of};
 use py_base::{List, NameId, NoMemory, NodeId, NodeKind, Tree, Word};
 
-/// How high the tree of a line is at most.
-pub const HEIGHT: u32 = 256;
+/// How high the tree of a line is at most, so that what goes down to this depth sees all of it.
+pub const TREE_HEIGHT: u32 = 256;
 
 fn is_the_underscore(tree: &Tree, name: NameId) -> bool
     ensures { result ≡ is_underscore tree.now.names (Word.Name name) }

@@ -1,17 +1,14 @@
 //! Which nodes are bound.
 ghost use Rattle.std.specs.Prelude.{◌≡◌, ◌-◌, [], ◌∷◌, ◌++◌, IfOk, OnOk, length};
-ghost use Rattle.py_scopes.specs.Kinds.{binds_part};
 ghost use Rattle.flow_forms.specs.Forms.{forms_of};
 ghost use Rattle.flow_forms.specs.Patterns.{gather};
 ghost use Rattle.flow_references.specs.Targets.{is_place, holds_targets, held, targets, first_name, dotted, bound_part, bound_from, bound_by, captured_by, captured_of, bound_nodes, spelled_by, spelled_nodes};
 
-use flow_forms::{forms, kind_of, parts_of};
+use flow_forms::{TREE_HEIGHT, forms, kind_of, parts_of};
 use flow_points::Form;
 use py_base::{List, NoMemory, NodeId, NodeKind, Tree};
+use py_scopes::does_bind;
 use std::alloc::Global;
-
-/// How high the tree of a line is at most.
-const HEIGHT: u32 = 256;
 
 /// Whether it is the kind of a name or of an attribute.
 pub(crate) fn is_place(kind: NodeKind) -> bool
@@ -97,39 +94,6 @@ fn add_dotted(tree: &Tree, node: NodeId, left: u32, list: &mut List<NodeId>) -> 
     }
 }
 
-// Whether a node of this kind with so many parts binds the one of this number.
-fn does_bind(kind: NodeKind, part: usize, parts: usize) -> bool
-    ensures { result ≡ binds_part kind part parts }
-{
-    match kind {
-        NodeKind::AnnotatedAssign
-        | NodeKind::AugmentedAssign
-        | NodeKind::Named
-        | NodeKind::For
-        | NodeKind::ComprehensionFor
-        | NodeKind::AsyncComprehensionFor
-        | NodeKind::Def
-        | NodeKind::Class
-        | NodeKind::Case
-        | NodeKind::Parameter
-        | NodeKind::AnnotatedParameter
-        | NodeKind::StarParameter
-        | NodeKind::DoubleStarParameter
-        | NodeKind::TypeParameter => part == 0,
-        NodeKind::Assign | NodeKind::Lambda => part < parts.saturating_sub(1),
-        NodeKind::WithItem | NodeKind::TypeAlias | NodeKind::Alias => part == 1,
-        NodeKind::ImportFrom => part != 0,
-        NodeKind::Except | NodeKind::ExceptStar => part == 1 && parts == 3,
-        NodeKind::Del
-        | NodeKind::Import
-        | NodeKind::Parameters
-        | NodeKind::TypeParameters
-        | NodeKind::StarTypeParameter
-        | NodeKind::DoubleStarTypeParameter => true,
-        _ => false,
-    }
-}
-
 // Adds the targets in a part, where a node of this kind with so many parts binds the one of this number.
 fn add_bound_part(
     tree: &Tree,
@@ -142,7 +106,7 @@ fn add_bound_part(
     ensures { OnOk result (list.new ≡ list.old ++ bound_part tree.now.nodes kind parts place part) }
 {
     if does_bind(kind, place, parts) {
-        add_targets(tree, part, HEIGHT, list)
+        add_targets(tree, part, TREE_HEIGHT, list)
     } else {
         Ok(())
     }
@@ -167,7 +131,7 @@ fn add_first_names(tree: &Tree, parts: &[NodeId], list: &mut List<NodeId>) -> Re
     ensures { OnOk result (list.new ≡ list.old ++ gather (first_name 256 tree.now.nodes) parts.now) }
 {
     for part in parts {
-        add_first_name(tree, *part, HEIGHT, list)?;
+        add_first_name(tree, *part, TREE_HEIGHT, list)?;
     }
     Ok(())
 }
@@ -176,7 +140,7 @@ fn add_all_dotted(tree: &Tree, parts: &[NodeId], list: &mut List<NodeId>) -> Res
     ensures { OnOk result (list.new ≡ list.old ++ gather (dotted 256 tree.now.nodes) parts.now) }
 {
     for part in parts {
-        add_dotted(tree, *part, HEIGHT, list)?;
+        add_dotted(tree, *part, TREE_HEIGHT, list)?;
     }
     Ok(())
 }

@@ -6,12 +6,9 @@ ghost use Rattle.py_base.specs.declared.ids.RefId.{RefId};
 ghost use Rattle.node_references.specs.Numbers.{flat};
 ghost use Rattle.flow_references.specs.Tests.{bared, seen, kind_seen, parts_seen, named_in, tested_by_place, when, or_else, chain_within, is_chain, is_member_name, is_constant, is_singleton, first_is_integer, is_literal_by, is_literal_node, is_value, is_comma, is_entry, is_display_of, is_display, only_argument, is_class_entry, is_tuple_of_classes, are_classes, class_tested, is_name_kind, is_text, is_spelled, is_called, is_class_test, place_or, call_tests, type_argument_in, type_argument, type_tests, is_tests, equal_tests, operator_tests, comparison_tests, subject_or, testing, form_tests, node_tests};
 
-use flow_forms::{kind_of, node_at, parts_of};
+use flow_forms::{TREE_HEIGHT, kind_of, node_at, parts_of};
 use node_references::{Shape, at, name_of, shape_of};
 use py_base::{NameId, Node, NodeId, NodeKind, Op, RefId, Tree, Word};
-
-/// How high the tree of a line is at most.
-const HEIGHT: u32 = 256;
 
 // What stands in brackets, down to a depth.
 fn bared(tree: &Tree, node: NodeId, left: u32) -> NodeId
@@ -31,7 +28,7 @@ fn bared(tree: &Tree, node: NodeId, left: u32) -> NodeId
 fn seen(tree: &Tree, node: NodeId) -> NodeId
     ensures { result ≡ seen tree.now.nodes node }
 {
-    bared(tree, node, HEIGHT)
+    bared(tree, node, TREE_HEIGHT)
 }
 
 fn kind_seen(tree: &Tree, node: NodeId) -> NodeKind
@@ -104,7 +101,7 @@ fn is_chain_within(tree: &Tree, node: NodeId, left: u32) -> bool
 fn is_chain(tree: &Tree, node: NodeId) -> bool
     ensures { result ≡ is_chain tree.now.nodes node }
 {
-    is_chain_within(tree, node, HEIGHT)
+    is_chain_within(tree, node, TREE_HEIGHT)
 }
 
 // Whether it is written as a member of an enum.

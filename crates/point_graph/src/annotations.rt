@@ -8,8 +8,8 @@ use flow_points::Form;
 use py_base::{List, NoMemory, NodeId, NodeKind, Tree};
 use std::alloc::Global;
 
-// Whether a node names `cast`.
-fn names_cast(casts: &[bool], node: NodeId) -> bool
+// Whether a node is marked; one beyond the marks isn't.
+fn is_marked(casts: &[bool], node: NodeId) -> bool
     ensures { result ≡ is_marked casts.now node }
 {
     match casts.get(node.0 as usize) {
@@ -41,7 +41,7 @@ fn call_without(
     match arguments {
         [] => Ok(None),
         [first, more @ ..] => {
-            if names_cast(casts, callee) && stands_plain(kind_of(tree, *first)) {
+            if is_marked(casts, callee) && stands_plain(kind_of(tree, *first)) {
                 let rest = Vec::from_slice(alloc, more)?;
                 Ok(Some(Form::Call(callee, List::from_vec(rest))))
             } else {
@@ -65,7 +65,7 @@ fn changed(
             call_without(alloc, tree, casts, *callee, arguments.as_slice())
         }
         Form::CallOver(callee, _, _) => {
-            if names_cast(casts, *callee) {
+            if is_marked(casts, *callee) {
                 Ok(Some(Form::Call(*callee, List::new(alloc))))
             } else {
                 Ok(None)

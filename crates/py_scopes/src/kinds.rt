@@ -4,8 +4,11 @@ ghost use Rattle.py_scopes.specs.Kinds.{binds_part, hands_on, spells_part, is_do
 
 use py_base::NodeKind;
 
-/// Whether a node of this kind binds its part of this number.
-pub(crate) fn does_bind(kind: NodeKind, part: usize, parts: usize) -> bool
+/// Whether a node of this kind binds its part of this number, counted from 0, where it has so many parts: a
+/// target, a parameter, a name that is imported or declared, or what holds such.
+///
+/// Python 3.12 language reference, 4.2.1, "Binding of names".
+pub fn does_bind(kind: NodeKind, part: usize, parts: usize) -> bool
     ensures { result ≡ binds_part kind part parts }
 {
     match kind {

@@ -31,6 +31,7 @@ mod table;
 mod way;
 
 pub use build::scopes;
+pub use kinds::does_bind;
 pub use owner::Owner;
 pub use plain::plain_scopes;
 pub use table::Scopes;
