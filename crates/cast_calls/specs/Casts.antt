@@ -13,7 +13,7 @@ use Rattle.py_scopes.specs.Table.{ScopeTable}
 use Rattle.flow_forms.specs.Clauses.{kind_at, parts_at}
 use Rattle.node_references.specs.declared.reference.Root.{Root}
 use Rattle.node_references.specs.declared.reference.Root.TheVariants as roots
-use Rattle.node_references.specs.declared.reference.Reference.{Reference}
+use Rattle.node_references.specs.Reference.{Reference}
 use Rattle.node_references.specs.References.{reference_of}
 use Rattle.node_references.specs.Marks.{is_among}
 use Rattle.cast_calls.specs.declared.imports.Imported.{Imported}

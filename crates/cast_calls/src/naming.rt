@@ -1,9 +1,10 @@
 //! Which nodes name `cast` of typing.
 ghost use Rattle.std.specs.Prelude.{◌≡◌, List, IfOk, length, slice_get};
-ghost use Rattle.std.specs.Option.{option_copied};
+ghost use Rattle.std.specs.Option.{option_map};
 ghost use Rattle.py_base.specs.declared.ids.NodeId.{NodeId};
 ghost use Rattle.py_base.specs.Tree.{Arena};
 ghost use Rattle.py_scopes.specs.declared.owner.Owner.{Owner};
+ghost use Rattle.node_references.specs.Reference.{lent};
 ghost use Rattle.node_references.specs.References.{reference_of};
 ghost use Rattle.node_references.specs.Numbers.{AreNodeReferences};
 ghost use Rattle.cast_calls.specs.declared.imports.Imported.TheVariants as imports;
@@ -11,8 +12,8 @@ ghost use Rattle.cast_calls.specs.Casts.{imported_nodes, is_only_of, is_root_of,
 ghost use Rattle.node_references.specs.Marks.{AreMarks};
 
 use crate::imports::{ImportMarks, Imported, import_marks, is_spelled, text_of};
-use node_references::{NodeReferences, Reference, Root, at, is_marked};
-use py_base::{List, NoMemory, NodeId, SymId, Tree};
+use node_references::{NodeReferences, Root, at, is_marked};
+use py_base::{List, NameId, NoMemory, NodeId, SymId, Tree};
 use py_scopes::Scopes;
 use std::alloc::Global;
 
@@ -40,27 +41,27 @@ fn is_root_marked(scopes: &Scopes, root: Root, marks: &[bool]) -> bool
 }
 
 // Whether a reference is `cast` of typing.
-fn is_cast(tree: &Tree, scopes: &Scopes, marks: &ImportMarks, reference: &Reference) -> bool
+fn is_cast(tree: &Tree, scopes: &Scopes, marks: &ImportMarks, root: Root, names: &[NameId]) -> bool
     requires typing { AreMarks (imported_nodes imports.Typing tree.now) (length scopes.now.owners) marks.now.typing }
     requires cast { AreMarks (imported_nodes imports.Cast tree.now) (length scopes.now.owners) marks.now.cast }
-    ensures { result ≡ is_cast_chain tree.now scopes.now reference.now.root reference.now.names }
+    ensures { result ≡ is_cast_chain tree.now scopes.now root names.now }
 {
-    match reference.names.as_slice() {
-        [] => is_root_marked(scopes, reference.root, marks.cast.as_slice()),
+    match names {
+        [] => is_root_marked(scopes, root, marks.cast.as_slice()),
         [name] => {
             is_spelled(Imported::Cast, text_of(tree, *name))
-                && is_root_marked(scopes, reference.root, marks.typing.as_slice())
+                && is_root_marked(scopes, root, marks.typing.as_slice())
         }
         _ => false,
     }
 }
 
 // The reference that a node stands for, if it stands for one.
-fn reference_at(nodes: &NodeReferences, node: NodeId) -> Option<&Reference>
-    ensures { (a : Arena) (owners : List Owner) → AreNodeReferences a owners nodes.now → option_copied result ≡ reference_of a owners node }
+fn reference_at(nodes: &NodeReferences, node: NodeId) -> Option<(Root, &[NameId])>
+    ensures { (a : Arena) (owners : List Owner) → AreNodeReferences a owners nodes.now → option_map lent result ≡ reference_of a owners node }
 {
     let number = at(nodes.numbers.as_slice(), node.0)?;
-    nodes.list.get(number.0 as usize)
+    nodes.list.get(number)
 }
 
 // Whether a node names `cast` of typing.
@@ -78,7 +79,7 @@ fn names_cast(
 {
     match reference_at(nodes, node) {
         None => false,
-        Some(reference) => is_cast(tree, scopes, marks, reference),
+        Some((root, names)) => is_cast(tree, scopes, marks, root, names),
     }
 }
 

@@ -38,7 +38,7 @@ impl Graph {
     ghost use Rattle.point_graph.specs.Graph.{IsClosed, listed_or, graph_id, points_or, end_or, home_or};
     ghost use Rattle.point_graph.specs.Numbers.{IsNumber, AreWithin};
     ghost use Rattle.point_graph.specs.Operands.{IsPointAt};
-    ghost use Rattle.node_references.specs.declared.reference.Reference.{Reference};
+    ghost use Rattle.node_references.specs.Reference.{Reference};
     ghost use Rattle.node_references.specs.Numbers.{flat, symbol_of};
     ghost use Rattle.flow_references.specs.Table.{AreBelow, IsClosed as AreIds};
 

@@ -10,7 +10,7 @@ use Rattle.flow_points.specs.declared.point.Point.{Point}
 use Rattle.flow_points.specs.declared.point.Role.{Role}
 use Rattle.flow_points.specs.declared.point.Role.TheVariants as roles
 use Rattle.point_graph.specs.Graph.{Numbered, listed_or}
-use Rattle.node_references.specs.declared.reference.Reference.{Reference}
+use Rattle.node_references.specs.Reference.{Reference}
 use Rattle.node_references.specs.Numbers.{flat, IsNumberOf}
 use Rattle.flow_references.specs.Table.{ReferenceTable, read_by_role, read_at, bound_id, AreOccurring, AreBelow, IsBindingOf, AreReferences, IsClosed}
 

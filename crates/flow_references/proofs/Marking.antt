@@ -12,7 +12,7 @@ use Rattle.flow_points.specs.declared.point.Point.{Point}
 use Rattle.flow_points.specs.declared.point.Role.{Role}
 use Rattle.flow_points.specs.declared.point.Role.TheVariants as roles
 use Rattle.flow_forms.specs.Clauses.{kind_at, parts_at}
-use Rattle.node_references.specs.declared.reference.Reference.{Reference}
+use Rattle.node_references.specs.Reference.{Reference}
 use Rattle.flow_references.specs.declared.binding.Binder.{Binder}
 use Rattle.node_references.specs.References.{reference_of}
 use Rattle.node_references.specs.Marks.{is_among, AreMarks}

@@ -17,7 +17,7 @@ use Rattle.py_scopes.specs.Way.{same_node}
 use Rattle.flow_points.specs.declared.point.Point.{Point}
 use Rattle.flow_points.specs.declared.form.Form.{Form}
 use Rattle.flow_forms.specs.Forms.{forms_of}
-use Rattle.node_references.specs.declared.reference.Reference.{Reference}
+use Rattle.node_references.specs.Reference.{Reference}
 use Rattle.node_references.specs.References.{reference_of}
 use Rattle.node_references.specs.Marks.{is_among, AreMarks}
 use Rattle.flow_references.specs.Targets.{bound_nodes, spelled_nodes}

@@ -8,7 +8,7 @@ use Rattle.flow_points.specs.declared.form.Form.{Form}
 use Rattle.flow_points.specs.declared.point.Point.{Point}
 use Rattle.flow_forms.specs.Clauses.{kind_at, parts_at}
 use Rattle.py_scopes.specs.declared.owner.Owner.{Owner}
-use Rattle.node_references.specs.declared.reference.Reference.{Reference}
+use Rattle.node_references.specs.Reference.{Reference}
 use Rattle.node_references.specs.Numbers.{flat, IsNumberOf}
 use Rattle.flow_references.specs.declared.binding.Binder.{Binder}
 use Rattle.node_references.specs.Marks.{is_among}

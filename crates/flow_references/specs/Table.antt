@@ -11,7 +11,7 @@ use Rattle.flow_points.specs.declared.point.Role.{Role}
 use Rattle.flow_points.specs.declared.point.Role.TheVariants as roles
 use Rattle.flow_edges.specs.Flow.{Has}
 use Rattle.point_graph.specs.Graph.{Numbered, points_or}
-use Rattle.node_references.specs.declared.reference.Reference.{Reference}
+use Rattle.node_references.specs.Reference.{Reference}
 use Rattle.node_references.specs.Numbers.{AreApart, flat, IsNumberOf}
 use Rattle.flow_references.specs.Bindings.{read, binding}
 use Rattle.flow_references.specs.Tests.{tested}

@@ -20,7 +20,7 @@ use Rattle.flow_points.specs.declared.form.Form.{Form}
 use Rattle.flow_points.specs.declared.form.Form.TheVariants as forms
 use Rattle.flow_forms.specs.Clauses.{kind_at, parts_at}
 use Rattle.flow_forms.specs.Forms.{forms_of}
-use Rattle.node_references.specs.declared.reference.Reference.{Reference}
+use Rattle.node_references.specs.Reference.{Reference}
 use Rattle.node_references.specs.declared.shape.Shape.{Shape}
 use Rattle.node_references.specs.declared.shape.Shape.TheVariants as shapes
 use Rattle.node_references.specs.References.{shape, reference_of}

@@ -1,7 +1,7 @@
 //! What is known of the references of a tree's graphs.
 ghost use Rattle.std.specs.Prelude.{◌≡◌, slice_get};
 
-use node_references::{Reference, Root, at};
+use node_references::{ReferenceList, Root, at};
 use py_base::{GraphId, List, NameId, NodeId, PointId, RefId, SymId};
 use std::marker::Model;
 
@@ -13,7 +13,7 @@ use std::marker::Model;
 /// in it.
 #[derive(Drop)]
 pub struct References {
-    pub(crate) list: List<Reference>,
+    pub(crate) list: ReferenceList,
     pub(crate) reads: List<Option<RefId>>,
     pub(crate) bindings: List<Option<(RefId, NodeId)>>,
     pub(crate) tests: List<Option<RefId>>,
@@ -34,7 +34,7 @@ impl Model for References {
 impl References {
     ghost use Rattle.std.specs.Prelude.{◌≡◌, ◌<◌, Some, IfSome, length, slice_get};
     ghost use Rattle.point_graph.specs.Graph.{listed_or};
-    ghost use Rattle.node_references.specs.declared.reference.Reference.{Reference};
+    ghost use Rattle.node_references.specs.Reference.{Reference};
     ghost use Rattle.node_references.specs.Numbers.{flat, symbol_of};
     ghost use Rattle.flow_references.specs.Table.{AreBelow, IsClosed};
 
@@ -51,12 +51,12 @@ impl References {
         requires { reference.0 < length self.now.list }
         ensures { (r : Reference) × (slice_get self.now.list reference.0 ≡ Some r) × (result.0 ≡ symbol_of r.root) × (result.1.now ≡ r.names) }
     {
-        let found = &self.list.as_slice()[reference.0 as usize];
-        let symbol = match found.root {
+        let (root, names) = self.list.reference(reference);
+        let symbol = match root {
             Root::Symbol(symbol) => Some(symbol),
             Root::Subject(_) => None,
         };
-        (symbol, found.names.as_slice())
+        (symbol, names)
     }
 
     /// The references that occur in a graph, each once; none for a number that no graph has.

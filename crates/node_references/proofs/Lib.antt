@@ -1,3 +1,4 @@
+mod Chaining
 pub mod Links
 mod Marking
 pub mod Within

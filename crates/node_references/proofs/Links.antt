@@ -5,7 +5,7 @@ use Rattle.indexmap.specs.IndexSet.{insert_key}
 use Rattle.py_base.specs.declared.ids.NameId.{NameId}
 use Rattle.py_base.specs.declared.ids.RefId.{RefId}
 use Rattle.node_references.specs.declared.reference.Root.{Root}
-use Rattle.node_references.specs.declared.reference.Reference.{Reference}
+use Rattle.node_references.specs.Reference.{Reference}
 use Rattle.node_references.specs.declared.numbering.Link.{Link}
 use Rattle.node_references.specs.declared.numbering.Link.TheVariants as links
 use Rattle.node_references.specs.contracts.numbering.LinkPartialEq.TheImpl.{eq-value}

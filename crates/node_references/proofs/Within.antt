@@ -9,7 +9,7 @@ use Rattle.py_base.specs.TreeLaws.{AreLinked-at, AreOlder-later}
 use Rattle.py_scopes.specs.declared.owner.Owner.{Owner}
 use Rattle.py_scopes.specs.Occurrences.{name_of}
 use Rattle.flow_forms.specs.Clauses.{kind_at, parts_at, parts_or}
-use Rattle.node_references.specs.declared.reference.Reference.{Reference}
+use Rattle.node_references.specs.Reference.{Reference}
 use Rattle.node_references.specs.declared.shape.Shape.{Shape}
 use Rattle.node_references.specs.declared.shape.Shape.TheVariants as shapes
 use Rattle.node_references.specs.References.{Sort, a_name, an_attribute, in_brackets, a_match, another, sort, shaped, shape_at, of_attribute, by_shape, within, reference_of}

@@ -1,4 +1,6 @@
 pub mod Marks
+pub mod Reference
 pub mod References
+pub mod Chains
 pub mod Numbers
 pub mod Numbering

@@ -4,7 +4,7 @@ use Rattle.py_base.specs.declared.ids.NodeId.{NodeId}
 use Rattle.py_base.specs.declared.ids.RefId.{RefId}
 use Rattle.py_base.specs.Tree.{Arena}
 use Rattle.py_scopes.specs.declared.owner.Owner.{Owner}
-use Rattle.node_references.specs.declared.reference.Reference.{Reference}
+use Rattle.node_references.specs.Reference.{Reference}
 use Rattle.node_references.specs.declared.numbering.Link.{Link}
 use Rattle.node_references.specs.declared.numbering.Link.TheVariants as links
 use Rattle.node_references.specs.declared.shape.Shape.{Shape}

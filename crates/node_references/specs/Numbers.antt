@@ -7,7 +7,7 @@ use Rattle.py_base.specs.Tree.{Arena}
 use Rattle.py_scopes.specs.declared.owner.Owner.{Owner}
 use Rattle.node_references.specs.declared.reference.Root.{Root}
 use Rattle.node_references.specs.declared.reference.Root.TheVariants as roots
-use Rattle.node_references.specs.declared.reference.Reference.{Reference}
+use Rattle.node_references.specs.Reference.{Reference}
 use Rattle.node_references.specs.declared.referred.NodeReferences.{NodeReferences}
 use Rattle.node_references.specs.References.{reference_of}
 

@@ -12,7 +12,7 @@ use Rattle.py_scopes.specs.Occurrences.{name_of}
 use Rattle.flow_forms.specs.Clauses.{kind_at, parts_at}
 use Rattle.node_references.specs.declared.reference.Root.{Root}
 use Rattle.node_references.specs.declared.reference.Root.TheVariants as roots
-use Rattle.node_references.specs.declared.reference.Reference.{Reference}
+use Rattle.node_references.specs.Reference.{Reference}
 use Rattle.node_references.specs.declared.shape.Shape.{Shape}
 use Rattle.node_references.specs.declared.shape.Shape.TheVariants as shapes
 

@@ -7,21 +7,25 @@
 //! (`specs/References.antt`, after the Python 3.12 language reference, 6.2.1, 6.2.3 and 6.3.1). Whether a node
 //! runs, and whether it reads, binds or tests its reference, isn't said here.
 //!
+//! The crates above keep sets of nodes as marks, one for each node (`AreMarks`, in `specs/Marks.antt`).
+//!
 //! Below stand `py_base` (trees), `py_scopes` (whose a name is) and `flow_forms` (the kind and the parts that a
-//! number has). Time grows with the tree; the names of a chain are stored for each of its beginnings, of which
-//! there are at most 256.
+//! number has). Time grows with the tree; the names of all references stand in one list, in which a chain
+//! shares them with those of its beginnings that come right before it (`ReferenceList`).
 #![tactic(auto)]
 
 mod marks;
 mod nodes;
 mod numbering;
 mod reference;
+mod reference_list;
 mod referred;
 mod shape;
 
 pub use marks::{is_marked, mark, marked, unmarked};
 pub use nodes::name_of;
-pub use reference::{Reference, Root};
+pub use reference::Root;
+pub use reference_list::ReferenceList;
 pub use referred::{NodeReferences, at, node_references};
 pub use shape::{Shape, shape_of};
 

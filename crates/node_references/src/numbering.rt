@@ -1,12 +1,12 @@
 //! The numbers of references.
 ghost use Rattle.std.specs.Prelude.{◌≡◌, ◌<◌, [], ◌++◌, ◌∷◌, IfOk, OnOk, Some, slice_get, length};
-ghost use Rattle.node_references.specs.declared.reference.Reference.{Reference};
+ghost use Rattle.node_references.specs.Reference.{Reference};
 ghost use Rattle.node_references.specs.Numbering.{Keeps, AreLinked, IsWithin, IsOf};
 
-use crate::reference::{Reference, Root};
+use crate::reference::Root;
+use crate::reference_list::ReferenceList;
 use indexmap::IndexSet;
-use py_base::{List, NameId, NoMemory, RefId};
-use std::alloc::Global;
+use py_base::{NameId, NoMemory, RefId};
 
 /// How many references a tree can have: there are fewer than this.
 const REFERENCE_ROOM: usize = 4_294_967_295;
@@ -23,38 +23,23 @@ pub enum Link {
 #[derive(Drop)]
 pub struct Numbering {
     pub links: IndexSet<Link>,
-    pub list: List<Reference>,
+    pub list: ReferenceList,
 }
 
-// The reference of a link.
-fn reference_of(alloc: Global, list: &[Reference], link: Link) -> Result<Reference, NoMemory>
-    requires { IsWithin (length list.now) link }
-    ensures { IfOk result (λ r. IsOf list.now link r) }
+// Adds the reference of a link.
+fn push_link(list: &mut ReferenceList, link: Link) -> Result<(), NoMemory>
+    requires { IsWithin (length list.old) link }
+    ensures { OnOk result ((r : Reference) × IsOf list.old link r × (list.new ≡ list.old ++ r ∷ [])) }
 {
     match link {
-        Link::Root(root) => Ok(Reference {
-            root,
-            names: List::new(alloc),
-        }),
-        Link::Member(of, name) => {
-            let before = &list[of.0 as usize];
-            let mut names = before.names.copy(alloc)?;
-            names.push(name)?;
-            Ok(Reference {
-                root: before.root,
-                names,
-            })
-        }
+        Link::Root(root) => list.push_root(root),
+        Link::Member(of, name) => list.push_member(of, name),
     }
 }
 
 /// The number of the reference of a link, which gets the next one if it has none. `NoMemory` where there is
 /// no further number too.
-pub(crate) fn number(
-    alloc: Global,
-    numbering: &mut Numbering,
-    link: Link,
-) -> Result<RefId, NoMemory>
+pub(crate) fn number(numbering: &mut Numbering, link: Link) -> Result<RefId, NoMemory>
     requires linked { AreLinked numbering.old.links.keys numbering.old.list }
     requires within { IsWithin (length numbering.old.list) link }
     ensures at { IfOk result (λ id. (r : Reference) × (slice_get numbering.new.list id.0 ≡ Some r) × IsOf numbering.old.list link r) }
@@ -68,7 +53,6 @@ pub(crate) fn number(
     if !is_new {
         return Ok(RefId(at as u32));
     }
-    let reference = reference_of(alloc, numbering.list.as_slice(), link)?;
-    numbering.list.push(reference)?;
+    push_link(&mut numbering.list, link)?;
     Ok(RefId(at as u32))
 }

@@ -1,6 +1,6 @@
-//! References.
+//! What references begin with.
 
-use py_base::{List, NameId, NodeId, SymId};
+use py_base::{NodeId, SymId};
 
 /// What a reference begins with.
 #[derive(Clone, Copy, Debug, PartialEq, Eq, Hash)]
@@ -9,12 +9,4 @@ pub enum Root {
     Symbol(SymId),
     /// The subject of a `match` statement: its hidden reference, which no name stands for.
     Subject(NodeId),
-}
-
-/// What a code flow graph keeps a type for at each of its points: a symbol, or what the names behind it
-/// lead to, as `symbol.name.name`.
-#[derive(Debug, Drop)]
-pub struct Reference {
-    pub root: Root,
-    pub names: List<NameId>,
 }

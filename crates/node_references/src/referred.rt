@@ -1,7 +1,7 @@
 //! The references that the nodes of a tree stand for.
 ghost use Rattle.std.specs.Prelude.{◌≡◌, ◌<◌, Option, IfOk, OnOk, Some, slice_get, length};
 ghost use Rattle.py_base.specs.declared.ids.NodeId.{NodeId};
-ghost use Rattle.node_references.specs.declared.reference.Reference.{Reference};
+ghost use Rattle.node_references.specs.Reference.{Reference};
 ghost use Rattle.std.specs.Option.{option_copied};
 ghost use Rattle.node_references.specs.References.{of_owner, of_attribute, by_shape};
 ghost use Rattle.node_references.specs.Numbers.{flat, IsNumberOf, AreNodeReferences};
@@ -9,7 +9,8 @@ ghost use Rattle.node_references.specs.Numbering.{Keeps, AreLinked, AreNumbersOf
 
 use crate::nodes::name_of;
 use crate::numbering::{Link, Numbering, number};
-use crate::reference::{Reference, Root};
+use crate::reference::Root;
+use crate::reference_list::ReferenceList;
 use crate::shape::{Shape, shape_of};
 use flow_forms::{kind_of, parts_of};
 use indexmap::IndexSet;
@@ -21,7 +22,7 @@ use std::alloc::Global;
 #[derive(Drop)]
 pub struct NodeReferences {
     /// The references by their numbers, each once.
-    pub list: List<Reference>,
+    pub list: ReferenceList,
     /// For each node the number of the reference that it stands for, if it stands for one.
     pub numbers: List<Option<RefId>>,
 }
@@ -37,11 +38,7 @@ pub fn at<T: Copy>(list: &[Option<T>], number: u32) -> Option<T>
 }
 
 // The number of the reference of a name.
-fn number_of_name(
-    alloc: Global,
-    owner: Owner,
-    numbering: &mut Numbering,
-) -> Result<Option<RefId>, NoMemory>
+fn number_of_name(owner: Owner, numbering: &mut Numbering) -> Result<Option<RefId>, NoMemory>
     requires linked { AreLinked numbering.old.links.keys numbering.old.list }
     ensures at { IfOk result (λ id. IsNumberOf numbering.new.list id (of_owner (Some owner))) }
     ensures keeps { OnOk result (Keeps numbering.old.list numbering.new.list) }
@@ -50,7 +47,7 @@ fn number_of_name(
     match owner {
         Owner::Local(symbol) | Owner::Outer(symbol) => {
             let link = Link::Root(Root::Symbol(symbol));
-            Ok(Some(number(alloc, numbering, link)?))
+            Ok(Some(number(numbering, link)?))
         }
         Owner::Builtin(_) | Owner::Undefined => Ok(None),
     }
@@ -58,7 +55,6 @@ fn number_of_name(
 
 // The number of the reference of an attribute, by the one before its name.
 fn number_of_attribute(
-    alloc: Global,
     before: Option<RefId>,
     name: Option<NameId>,
     numbering: &mut Numbering,
@@ -70,18 +66,13 @@ fn number_of_attribute(
     ensures linked { OnOk result (AreLinked numbering.new.links.keys numbering.new.list) }
 {
     match (before, name) {
-        (Some(before), Some(name)) => Ok(Some(number(
-            alloc,
-            numbering,
-            Link::Member(before, name),
-        )?)),
+        (Some(before), Some(name)) => Ok(Some(number(numbering, Link::Member(before, name))?)),
         _ => Ok(None),
     }
 }
 
 // The number of the reference of a node of this shape.
 fn number_of_shape(
-    alloc: Global,
     tree: &Tree,
     scopes: &Scopes,
     table: &[Option<RefId>],
@@ -97,15 +88,15 @@ fn number_of_shape(
     ensures linked { OnOk result (AreLinked numbering.new.links.keys numbering.new.list) }
 {
     match shape {
-        Shape::Name => number_of_name(alloc, scopes.owner(node), numbering),
+        Shape::Name => number_of_name(scopes.owner(node), numbering),
         Shape::Attribute(part) => {
             let before = at(table, part.0);
-            number_of_attribute(alloc, before, name_of(tree, node), numbering)
+            number_of_attribute(before, name_of(tree, node), numbering)
         }
         Shape::Group(part) => Ok(at(table, part.0)),
         Shape::Match => {
             let link = Link::Root(Root::Subject(node));
-            Ok(Some(number(alloc, numbering, link)?))
+            Ok(Some(number(numbering, link)?))
         }
         Shape::Other => Ok(None),
     }
@@ -128,15 +119,7 @@ fn referred(
     for place in 0..tree.node_count() {
         let node = NodeId(place as u32);
         let shape = shape_of(kind_of(tree, node), parts_of(tree, node));
-        let id = number_of_shape(
-            alloc,
-            tree,
-            scopes,
-            table.as_slice(),
-            node,
-            shape,
-            numbering,
-        )?;
+        let id = number_of_shape(tree, scopes, table.as_slice(), node, shape, numbering)?;
         table.push(id)?;
     }
     Ok(table)
@@ -155,7 +138,7 @@ pub fn node_references(
 {
     let mut numbering = Numbering {
         links: IndexSet::new(alloc),
-        list: List::new(alloc),
+        list: ReferenceList::new(alloc),
     };
     let numbers = referred(alloc, tree, scopes, &mut numbering)?;
     Ok(NodeReferences {

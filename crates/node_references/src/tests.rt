@@ -24,6 +24,7 @@ print Module/1 = 0
 x .y Module/1 = 0
 Int .y .z Module/1 = 0
 x Int Assign/2 x .a .b x .a Module/3 = 0:0 3:0 4:0.a 5:0.a.b 6:0 7:0.a 3
+x Int Assign/2 x .a .b x .a .c .d Module/3 = 0:0 3:0 4:0.a 5:0.a.b 6:0 7:0.a 8:0.a.c 9:0.a.c.d 5
 x Int Assign/2 y Int Assign/2 x .a y .a Module/4 = 0:0 3:1 6:0 7:0.a 8:1 9:1.a 4
 x Int Assign/2 x .a .a Module/2 = 0:0 3:0 4:0.a 5:0.a.a 3
 x Int Assign/2 x .y Int Assign/2 Module/2 = 0:0 3:0 4:0.y 2
@@ -204,11 +205,11 @@ fn show_reference(
     references: &NodeReferences,
     id: RefId,
 ) -> Result<(), AllocError> {
-    let Some(reference) = references.list.get(id.0 as usize) else {
+    let Some((root, names)) = references.list.get(id) else {
         return write!(out, "?");
     };
-    show_root(out, reference.root)?;
-    for name in reference.names.as_slice() {
+    show_root(out, root)?;
+    for name in names {
         if (name.0 as usize) < tree.name_count() {
             write!(out, ".{}", tree.name(*name))?;
         }
