@@ -1,18 +1,15 @@
 //! Names and their owners, worked by hand from the language reference.
 //!
-//! A row is a tree, ` = ` and what it gives: the owner of each `Name`, the number of bindings of each
-//! symbol with a `d` where it is declared, and the members of each class. In a tree a node stands
-//! behind its parts: a name is a `Name`, `.m` the attribute `m` of the node before it, and `Kind/n` a
-//! node of the last n ones.
-ghost use Rattle.std.specs.Prelude.{◌≡◌, ◌<◌, length, IfOk, IfSome};
-ghost use Rattle.py_base.specs.Tree.{AreOlder};
+//! A row is a tree as words in postfix order (`written_trees`), ` = ` and what it gives: the owner of each `Name`, the
+//! number of bindings of each symbol with a `d` where it is declared, and the members of each class.
+ghost use Rattle.std.specs.Prelude.{◌≡◌, length};
 
-use crate::occurrence::push_some;
 use crate::{Owner, Scopes, plain_scopes, scopes};
-use py_base::{List, NameId, NoMemory, Node, NodeId, NodeKind, Span, SymId, Tree, Word};
+use py_base::{NameId, NodeId, NodeKind, SymId, Tree};
 use std::alloc::{AllocError, Global};
 use std::fmt::Write;
 use std::test::Fail;
+use written_trees::tree_of;
 
 // Scopes, `global` and `nonlocal`.
 const SCOPES: &str = "\
@@ -113,201 +110,6 @@ staticmethod g Parameters/1 Suite Def/3 Pass Block/1 DefStatement/2 A Suite Clas
 f a Parameters/1 Suite Def/3 Async/1 a Return/1 Block/1 DefStatement/2 Module/1 = L0 L1 L1 | 1 1 | -
 f x Parameters/1 x Return/1 Suite/1 Def/3 DefStatement/1 Module/1 = L0 L1 L1 | 1 1 | -
 A x Int Assign/2 Suite/1 Class/2 ClassStatement/1 Module/1 = L0 L1 | 1 1 | 1";
-
-const KINDS: [(&str, NodeKind); 66] = [
-    ("Alias", NodeKind::Alias),
-    ("AnnotatedAssign", NodeKind::AnnotatedAssign),
-    ("AnnotatedParameter", NodeKind::AnnotatedParameter),
-    ("Arguments", NodeKind::Arguments),
-    ("AsPattern", NodeKind::AsPattern),
-    ("Assign", NodeKind::Assign),
-    ("Async", NodeKind::Async),
-    ("AugmentedAssign", NodeKind::AugmentedAssign),
-    ("Block", NodeKind::Block),
-    ("Call", NodeKind::Call),
-    ("Case", NodeKind::Case),
-    ("CaseStatement", NodeKind::CaseStatement),
-    ("Class", NodeKind::Class),
-    ("ClassPattern", NodeKind::ClassPattern),
-    ("ClassStatement", NodeKind::ClassStatement),
-    ("ComprehensionFor", NodeKind::ComprehensionFor),
-    ("Decorator", NodeKind::Decorator),
-    ("Def", NodeKind::Def),
-    ("DefStatement", NodeKind::DefStatement),
-    ("Del", NodeKind::Del),
-    ("Dot", NodeKind::Dot),
-    ("DoubleStarParameter", NodeKind::DoubleStarParameter),
-    ("DoubleStarPattern", NodeKind::DoubleStarPattern),
-    ("Except", NodeKind::Except),
-    ("Field", NodeKind::Field),
-    ("For", NodeKind::For),
-    ("ForStatement", NodeKind::ForStatement),
-    ("Global", NodeKind::Global),
-    ("If", NodeKind::If),
-    ("IfStatement", NodeKind::IfStatement),
-    ("Import", NodeKind::Import),
-    ("ImportAll", NodeKind::ImportAll),
-    ("ImportFrom", NodeKind::ImportFrom),
-    ("Int", NodeKind::Int),
-    ("Keyword", NodeKind::Keyword),
-    ("KeywordPattern", NodeKind::KeywordPattern),
-    ("Lambda", NodeKind::Lambda),
-    ("MappingPattern", NodeKind::MappingPattern),
-    ("Match", NodeKind::Match),
-    ("MatchStatement", NodeKind::MatchStatement),
-    ("Module", NodeKind::Module),
-    ("Named", NodeKind::Named),
-    ("Nonlocal", NodeKind::Nonlocal),
-    ("Parameter", NodeKind::Parameter),
-    ("Parameters", NodeKind::Parameters),
-    ("Pass", NodeKind::Pass),
-    ("PatternItem", NodeKind::PatternItem),
-    ("RelativeSource", NodeKind::RelativeSource),
-    ("Result", NodeKind::Result),
-    ("Return", NodeKind::Return),
-    ("Round", NodeKind::Round),
-    ("Square", NodeKind::Square),
-    ("StarParameter", NodeKind::StarParameter),
-    ("StarPattern", NodeKind::StarPattern),
-    ("Starred", NodeKind::Starred),
-    ("Strings", NodeKind::Strings),
-    ("Subscript", NodeKind::Subscript),
-    ("Suite", NodeKind::Suite),
-    ("Try", NodeKind::Try),
-    ("TryStatement", NodeKind::TryStatement),
-    ("TypeAlias", NodeKind::TypeAlias),
-    ("TypeParameter", NodeKind::TypeParameter),
-    ("TypeParameters", NodeKind::TypeParameters),
-    ("With", NodeKind::With),
-    ("WithItem", NodeKind::WithItem),
-    ("WithStatement", NodeKind::WithStatement),
-];
-
-// The kind of this name, `Fault` where it is none.
-fn kind_named(text: &str) -> NodeKind {
-    for (name, kind) in KINDS.iter() {
-        if text == *name {
-            return *kind;
-        }
-    }
-    NodeKind::Fault
-}
-
-// The node, if the tree has it.
-fn known(tree: &Tree, id: NodeId) -> Option<NodeId>
-    ensures { IfSome result (λ i. i.0 < length tree.now.nodes) }
-{
-    if (id.0 as usize) < tree.node_count() {
-        Some(id)
-    } else {
-        None
-    }
-}
-
-// The last of the open nodes, as many as are told.
-fn last_parts(
-    alloc: Global,
-    tree: &Tree,
-    open: &[NodeId],
-    count: usize,
-) -> Result<List<NodeId>, NoMemory>
-    ensures { IfOk result (AreOlder (length tree.now.nodes)) }
-{
-    let mut parts = List::new(alloc);
-    for id in &open[open.len().saturating_sub(count)..] {
-        push_some(&mut parts, known(tree, *id))?;
-    }
-    Ok(parts)
-}
-
-fn node_of(kind: NodeKind, word: Word, parts: List<NodeId>) -> Node
-    ensures word { result.word ≡ word }
-    ensures parts { result.parts ≡ parts }
-{
-    let span = Span { from: 0, to: 0 };
-    Node {
-        kind,
-        span,
-        parts,
-        word,
-    }
-}
-
-// Adds a node over the last of the open ones, and takes these from the list.
-fn add_node(
-    alloc: Global,
-    tree: &mut Tree,
-    open: &mut Vec<NodeId>,
-    kind: NodeKind,
-    count: usize,
-) -> Result<(), Fail> {
-    let parts = last_parts(alloc, tree, open.as_slice(), count)?;
-    let id = tree.add(node_of(kind, Word::Nothing, parts))?;
-    open.truncate(open.len().saturating_sub(count));
-    open.push(id)?;
-    Ok(())
-}
-
-// The same with a name as its word.
-fn add_named(
-    alloc: Global,
-    tree: &mut Tree,
-    open: &mut Vec<NodeId>,
-    kind: NodeKind,
-    count: usize,
-    name: &str,
-) -> Result<(), Fail> {
-    let word = tree.intern(name)?;
-    let parts = last_parts(alloc, tree, open.as_slice(), count)?;
-    let id = tree.add(node_of(kind, Word::Name(word), parts))?;
-    open.truncate(open.len().saturating_sub(count));
-    open.push(id)?;
-    Ok(())
-}
-
-fn add_leaf(
-    alloc: Global,
-    tree: &mut Tree,
-    open: &mut Vec<NodeId>,
-    text: &str,
-) -> Result<(), Fail> {
-    let kind = kind_named(text);
-    if kind == NodeKind::Fault {
-        add_named(alloc, tree, open, NodeKind::Name, 0, text)
-    } else {
-        add_node(alloc, tree, open, kind, 0)
-    }
-}
-
-fn add_written(
-    alloc: Global,
-    tree: &mut Tree,
-    open: &mut Vec<NodeId>,
-    text: &str,
-) -> Result<(), Fail> {
-    if let Some(name) = text.strip_prefix('.') {
-        return add_named(alloc, tree, open, NodeKind::Attribute, 1, name);
-    }
-    match text.split_once('/') {
-        Some((kind, count)) => add_node(
-            alloc,
-            tree,
-            open,
-            kind_named(kind),
-            count.parse::<usize>().unwrap_or(0),
-        ),
-        None => add_leaf(alloc, tree, open, text),
-    }
-}
-
-fn tree_of(alloc: Global, text: &str) -> Result<Tree, Fail> {
-    let mut tree = Tree::new(alloc)?;
-    let mut open = Vec::new(alloc);
-    for part in text.split(' ') {
-        add_written(alloc, &mut tree, &mut open, part)?;
-    }
-    Ok(tree)
-}
 
 fn show_owner(out: &mut String, owner: Owner) -> Result<(), AllocError> {
     match owner {
