@@ -113,8 +113,8 @@ fn end_binder(node: NodeId, kind: NodeKind, parts: &[NodeId]) -> Option<Binder>
     }
 }
 
-// What is bound at a point, whose node is a target or isn't.
-fn binder_at(tree: &Tree, bound: bool, point: Point) -> Option<Binder>
+/// What is bound at a point, whose node is a target or isn't.
+pub(crate) fn binder_at(tree: &Tree, bound: bool, point: Point) -> Option<Binder>
     ensures { result ≡ binder_by tree.now.nodes bound point.node (kind_at tree.now.nodes point.node) (parts_at tree.now.nodes point.node) point.role }
 {
     let kind = kind_of(tree, point.node);

@@ -11,6 +11,8 @@
 //! stands there are read, since each lambda has a graph. Where both sides of `==` are chains, as in
 //! `C.M == a.x`, it is the left one that is tested.
 //!
+//! `plain_read` and `plain_binding` find one answer each by searching lists of all nodes, slowly, for comparison.
+//!
 //! Each number that a call gives is one that `References::reference` takes (`IsClosed`, in `specs/Table.antt`).
 //!
 //! Below stand `py_base` (trees), `py_scopes` (whose a name is), `flow_points` and `flow_forms` (what a case
@@ -21,12 +23,14 @@
 mod binding;
 mod build;
 mod graphs;
+mod plain;
 mod subjects;
 mod table;
 mod targets;
 mod tested;
 
 pub use build::references;
+pub use plain::{plain_binding, plain_read};
 pub use table::References;
 
 #[cfg(test)]

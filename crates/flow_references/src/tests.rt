@@ -5,6 +5,8 @@
 //! node m says to what, `en=r<m` for the label behind it, and `n#r` where r occurs in the graph of node n. A reference
 //! is the number of its symbol and the names behind it, and `~` the hidden one of a `match`.
 
+mod plain;
+
 use crate::{References, references};
 use flow_points::{Point, Role};
 use node_references::node_references;

@@ -1,6 +1,8 @@
 -- The reference of a node by those of its parts, which are older.
-use Rattle.std.proofs.Common.{◌≡◌, ℕ, zero, suc, ◌+◌, ◌<◌, ◌≤◌, List, [], ◌∷◌, ◌++◌, length, refl, ap, sym, ◌∙◌, subst, Option, None, Some, slice_get, arith, ◌⊎◌, inl, inr}
+use Rattle.std.proofs.Common.{◌≡◌, ℕ, zero, suc, ◌+◌, ◌-◌, ◌<◌, ◌≤◌, List, [], ◌∷◌, ◌++◌, length, refl, ap, sym, ◌∙◌, subst, Option, None, Some, slice_get, arith, ◌⊎◌, inl, inr}
 use Rattle.std.proofs.lemmas.Bool.{cases_lt}
+use Rattle.std.proofs.Math.Numerals.{add-one}
+use Rattle.py_base.specs.declared.ids.NameId.{NameId}
 use Rattle.py_base.specs.declared.ids.NodeId.{NodeId}
 use Rattle.py_base.specs.declared.ids.RefId.{RefId}
 use Rattle.py_base.specs.declared.node.Node.{Node}
@@ -136,3 +138,22 @@ known_all a os list table long known n = elim (cases_lt n.0 (length a.nodes)) [
   | inl lt ↦ known n lt
   | inr ge ↦ rw (get_none table n.0 (rw long ge), reference_none a os n (get_none a.nodes n.0 ge)) tt
 ]
+
+-- a depth that is not none, by the shape of the node
+step : (left : ℕ) (a : Arena) (os : List Owner) (n : NodeId) → (left ≡ 0 → ⊥) → within left a os n ≡ by_shape (within (left - 1) a os) a os n (shape_at a n)
+step zero a os n h = absurd (h refl)
+step (suc left) a os n h =
+    let e : suc left - 1 ≡ left = omega arith in
+    ap (λ (k : ℕ). by_shape (within k a os) a os n (shape_at a n)) (sym e)
+
+pub attribute_step : (left : ℕ) (a : Arena) (os : List Owner) (n p : NodeId) (before : Option Reference) (name : Option NameId) → (left ≡ 0 → ⊥)
+    → shape_at a n ≡ shapes.Attribute p → before ≡ within (left - 1) a os p → name ≡ name_of a n → within left a os n ≡ of_attribute before name
+attribute_step left a os n p before name h shaped e f = rw (step left a os n h, shaped, e, f) refl
+
+pub group_step : (left : ℕ) (a : Arena) (os : List Owner) (n p : NodeId) → (left ≡ 0 → ⊥)
+    → shape_at a n ≡ shapes.Group p → within left a os n ≡ within (left - 1) a os p
+group_step left a os n p h shaped = rw (step left a os n h, shaped) refl
+
+pub whole_depth : (a : Arena) (os : List Owner) (n : NodeId) → within (n.0 + 1) a os n ≡ reference_of a os n
+unfolding reference_of
+whole_depth a os n = rw (add-one n.0) refl

@@ -7,6 +7,8 @@
 //! (`specs/References.antt`, after the Python 3.12 language reference, 6.2.1, 6.2.3 and 6.3.1). Whether a node
 //! runs, and whether it reads, binds or tests its reference, isn't said here.
 //!
+//! `plain_reference` finds the reference of one node from its parts alone, slowly, for comparison.
+//!
 //! The crates above keep sets of nodes as marks, one for each node (`AreMarks`, in `specs/Marks.antt`).
 //!
 //! Below stand `py_base` (trees), `py_scopes` (whose a name is) and `flow_forms` (the kind and the parts that a
@@ -17,6 +19,7 @@
 mod marks;
 mod nodes;
 mod numbering;
+mod plain;
 mod reference;
 mod reference_list;
 mod referred;
@@ -24,6 +27,7 @@ mod shape;
 
 pub use marks::{is_marked, mark, marked, unmarked};
 pub use nodes::name_of;
+pub use plain::{PlainReference, plain_reference};
 pub use reference::Root;
 pub use reference_list::ReferenceList;
 pub use referred::{NodeReferences, at, node_references};

@@ -4,9 +4,11 @@
 //! for the reference r: the number of its symbol and the names behind it, or `~`, the hidden reference of a `match`;
 //! then how many references there are.
 
-use crate::{NodeReferences, Root, at, node_references};
-use py_base::{RefId, Tree};
-use py_scopes::scopes;
+ghost use Rattle.std.specs.Prelude.{◌≡◌, length};
+
+use crate::{NodeReferences, Root, at, node_references, plain_reference};
+use py_base::{NameId, NodeId, RefId, Tree};
+use py_scopes::{Scopes, scopes};
 use std::alloc::{AllocError, Global};
 use std::fmt::Write;
 use std::test::Fail;
@@ -40,22 +42,35 @@ fn show_root(out: &mut String, root: Root) -> Result<(), AllocError> {
     }
 }
 
-fn show_reference(
-    out: &mut String,
-    tree: &Tree,
-    references: &NodeReferences,
-    id: RefId,
-) -> Result<(), AllocError> {
-    let Some((root, names)) = references.list.get(id) else {
-        return write!(out, "?");
-    };
-    show_root(out, root)?;
+fn show_names(out: &mut String, tree: &Tree, names: &[NameId]) -> Result<(), AllocError> {
     for name in names {
         if (name.0 as usize) < tree.name_count() {
             write!(out, ".{}", tree.name(*name))?;
         }
     }
     Ok(())
+}
+
+fn show_chain(
+    out: &mut String,
+    tree: &Tree,
+    root: Root,
+    names: &[NameId],
+) -> Result<(), AllocError> {
+    show_root(out, root)?;
+    show_names(out, tree, names)
+}
+
+fn show_reference(
+    out: &mut String,
+    tree: &Tree,
+    references: &NodeReferences,
+    id: RefId,
+) -> Result<(), AllocError> {
+    match references.list.get(id) {
+        Some((root, names)) => show_chain(out, tree, root, names),
+        None => write!(out, "?"),
+    }
 }
 
 // What a node stands for.
@@ -93,6 +108,45 @@ fn references_of_nodes(rt: HostRuntime) -> Result<(), Fail> {
     for row in ROWS.lines() {
         let (text, wanted) = row.split_once(" = ").unwrap_or((row, ""));
         assert_eq!(rt; shown(rt.alloc(), text)?.as_str(), wanted);
+    }
+    Ok(())
+}
+
+// The same by the plain program.
+fn show_plainly(
+    alloc: Global,
+    out: &mut String,
+    tree: &Tree,
+    scopes: &Scopes,
+    node: u32,
+) -> Result<(), Fail>
+    requires { length scopes.now.owners ≡ length tree.now.nodes }
+{
+    if let Some(reference) = plain_reference(alloc, tree, scopes, NodeId(node))? {
+        write!(out, "{node}:")?;
+        show_chain(out, tree, reference.root, reference.names.as_slice())?;
+        write!(out, " ")?;
+    }
+    Ok(())
+}
+
+// What all nodes of a tree stand for by the plain program.
+fn shown_plainly(alloc: Global, text: &str) -> Result<String, Fail> {
+    let tree = tree_of(alloc, text)?;
+    let scopes = scopes(alloc, &tree)?;
+    let mut out = String::new(alloc);
+    for place in 0..tree.node_count() {
+        show_plainly(alloc, &mut out, &tree, &scopes, place as u32)?;
+    }
+    Ok(out)
+}
+
+#[test]
+fn plain_references_of_nodes(rt: HostRuntime) -> Result<(), Fail> {
+    for row in ROWS.lines() {
+        let (text, wanted) = row.split_once(" = ").unwrap_or((row, ""));
+        let (nodes, _count) = wanted.rsplit_once(' ').unwrap_or(("", wanted));
+        assert_eq!(rt; shown_plainly(rt.alloc(), text)?.trim_end(), nodes);
     }
     Ok(())
 }
