@@ -11,7 +11,7 @@ mod simple;
 mod tries;
 
 use crate::sources::{Flow, flow_of, show_node, show_point, wanted};
-use flow_points::EdgeKind;
+use flow_graph::EdgeKind;
 use py_base::{NodeId, PointId};
 use std::alloc::{AllocError, Global};
 use std::fmt::Write;

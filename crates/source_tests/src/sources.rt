@@ -1,6 +1,5 @@
 //! Sources with their graphs, and the words of nodes and points.
-use flow_graph::{Graph, build};
-use flow_points::{Point, Role};
+use flow_graph::{Graph, Point, Role, build};
 use py_base::{NoMemory, NodeId, NodeKind, PointId, Tree};
 use py_scopes::{Scopes, scopes};
 use py_stmts::blocks;
