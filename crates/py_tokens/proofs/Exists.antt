@@ -1,5 +1,5 @@
 -- Each text has a cut: the pieces that are found are one.
-use Rattle.std.proofs.Common.{inl, inr, ◌≡◌, ℕ, zero, suc, ◌+◌, ◌*◌, ◌<◌, ◌≤◌, Bool, true, false, ◌∷◌, [], List, length, take, drop, refl, sym, ◌∙◌, ap, subst, arith, Option, Some, None, cond, length-drop, filter_map, MatchOption}
+use Rattle.std.proofs.Common.{inl, inr, ◌≡◌, ℕ, zero, suc, ◌+◌, ◌*◌, ◌<◌, ◌≤◌, Bool, true, false, ◌∷◌, [], List, length, take, drop, refl, ◌∙◌, ap, subst, arith, Option, Some, None, cond, length-drop, filter_map, MatchOption}
 use Rattle.std.proofs.lemmas.Bool.{cases_lt}
 use Rattle.py_tokens.specs.Fronts.{IsLongest, HasNone, longer}
 use Rattle.py_tokens.specs.Rows.{Fits, row_kind, row_at, fault_row}
@@ -34,12 +34,6 @@ pick_on table text n (Some k) best e p = (omega arith, e, λ m a b. absurd (omeg
 picked : (table : List ℕ → List ℕ → Option Kind) (text : List ℕ) (n : ℕ) → Picked table text n (pick table text n)
 picked table text zero = λ m l. absurd (omega arith)
 picked table text (suc n) = pick_on table text n (table (take n text) (drop n text)) (pick table text n) refl (picked table text n)
-
-pub pick_hit : (table : List ℕ → List ℕ → Option Kind) (text : List ℕ) (n more : ℕ) (k : Kind) → more ≡ suc n → table (take n text) (drop n text) ≡ Some k → Some (n, k) ≡ pick table text more
-pick_hit table text n more k e h = sym (ap (pick table text) e ∙ ap (λ f. longer n f (pick table text n)) h)
-
-pub pick_miss : (table : List ℕ → List ℕ → Option Kind) (text : List ℕ) (n more : ℕ) → more ≡ suc n → table (take n text) (drop n text) ≡ None → pick table text n ≡ pick table text more
-pick_miss table text n more e h = sym (ap (pick table text) e ∙ ap (λ f. longer n f (pick table text n)) h)
 
 picked_longest : (table : List ℕ → List ℕ → Option Kind) (text : List ℕ) (r : ℕ × Kind) → Picked table text (length text + 1) (Some r) → IsLongest table text r
 picked_longest table text r p = record { within = omega (arith, p.0); fits = p.1; longest = λ m a b. p.2 m a (omega arith) }

@@ -1,5 +1,5 @@
 -- The lines of a text, and their tokens, stand within it.
-use Rattle.std.proofs.Common.{◌≡◌, ◌≤◌, ◌+◌, ℕ, Bool, true, false, not, List, [], ◌∷◌, ◌++◌, length, filter_map, find, sum_by, Option, Some, None, IfSome, All, cond, option_map, arith}
+use Rattle.std.proofs.Common.{◌≤◌, ◌+◌, ℕ, Bool, true, false, not, List, [], ◌∷◌, ◌++◌, length, filter_map, find, sum_by, Option, Some, None, IfSome, All, cond, option_map, arith}
 use Rattle.std.specs.List.{cons_option}
 use Rattle.std.proofs.lemmas.List.Elements.{All-nil, All-cons, All-head, All-tail, All-append}
 use Rattle.std.proofs.lemmas.List.Sums.{sum_by-cons}
@@ -8,8 +8,8 @@ use Rattle.py_tokens.specs.declared.kinds.TokenKind.{TokenKind}
 use Rattle.py_tokens.specs.declared.lines.LogicalLine.{LogicalLine}
 use Rattle.py_tokens.specs.declared.lines.Placed.{Placed}
 use Rattle.py_tokens.specs.declared.lines.Token.{Token}
-use Rattle.py_tokens.specs.Blocks.{block_fault, blocks_after}
-use Rattle.py_tokens.specs.Lines.{Group, IsWithin, placed, with_all, with_piece, groups, is_gap, is_line_end, token_kind, token_of, token_in, end_of, line_from, line_of, mark}
+use Rattle.py_tokens.specs.Blocks.{blocks_after}
+use Rattle.py_tokens.specs.Lines.{Group, IsWithin, placed, with_all, groups, is_gap, is_line_end, token_kind, token_of, token_in, end_of, line_from, line_of, mark}
 use Rattle.py_tokens.specs.Spans.{IsSpanIn, IsLineIn}
 use Rattle.py_tokens.proofs.LineLaws.{found_within}
 

@@ -31,10 +31,8 @@ fn dedent(blocks: &mut VecDeque<u32>, column: u32)
 fn indent(blocks: &mut VecDeque<u32>, column: u32) -> Result<(), NoMemory>
     ensures { OnOk result (blocks.new.items ≡ column ∷ blocks.old.items) }
 {
-    match blocks.push_front(column) {
-        Ok(()) => Ok(()),
-        Err(_) => Err(NoMemory),
-    }
+    blocks.push_front(column)?;
+    Ok(())
 }
 
 fn depth_fault(blocks: &VecDeque<u32>) -> Option<TokenFault>

@@ -1,7 +1,7 @@
 //! The cut of a text, and what is known of every cut.
-ghost use Rattle.std.specs.Prelude.{◌≡◌, ℕ, ◌≤◌, Bool, List, [], length, drop, All, IfOk, false, sum_by};
+ghost use Rattle.std.specs.Prelude.{◌≡◌, ℕ, ◌≤◌, Bool, List, [], length, All, IfOk};
 ghost use Rattle.std.specs.Str.{chars};
-ghost use Rattle.py_tokens.specs.Nesting.{Nesting, none_open};
+ghost use Rattle.py_tokens.specs.Nesting.{Nesting};
 ghost use Rattle.py_tokens.specs.Cut.{Cut as IsCutInto, flat_texts};
 ghost use Rattle.py_tokens.specs.Lines.{mark_len};
 ghost use Rattle.py_tokens.specs.LogicalLines.{IsCut, logical_lines};
@@ -9,8 +9,6 @@ ghost use Rattle.py_tokens.specs.Spans.{IsLineIn};
 ghost use Rattle.py_tokens.specs.declared.kinds.Piece.{Piece};
 ghost use Rattle.py_tokens.specs.declared.lines.LogicalLine.{LogicalLine};
 
-use crate::chars::char_at;
-use crate::kinds::Piece;
 use crate::lines::{Cut, LogicalLine, lines_of};
 use crate::pieces::pieces;
 use py_base::{List, NoMemory};
@@ -22,10 +20,8 @@ pub fn characters(alloc: Global, text: &str) -> Result<Vec<char>, NoMemory>
     ensures value { IfOk result (λ v. v.items ≡ chars text.now) }
     ensures few { IfOk result (λ v. length v.items ≤ length text.now) }
 {
-    match text.chars().collect(alloc) {
-        Ok(list) => Ok(list),
-        Err(_) => Err(NoMemory),
-    }
+    let list = text.chars().collect(alloc)?;
+    Ok(list)
 }
 
 // How many characters a byte order mark takes at the front of a text.
@@ -39,31 +35,6 @@ fn mark_len(text: &[char]) -> usize
     }
 }
 
-/// The text behind its byte order mark.
-pub fn behind_mark(text: &[char]) -> &[char]
-    ensures { result.now ≡ drop (mark_len text.now) text.now }
-{
-    &text[mark_len(text)..]
-}
-
-/// The logical lines of a text that is cut into these pieces.
-pub fn lines_of_cut(
-    alloc: Global,
-    text: &[char],
-    pieces: &[Piece],
-) -> Result<List<LogicalLine>, NoMemory>
-    requires size { length text.now ≤ 524288 }
-    requires cut { IsCutInto none_open false (drop (mark_len text.now) text.now) pieces.now }
-    requires whole { sum_by (λ p. p.len) pieces.now ≡ length (drop (mark_len text.now) text.now) }
-    ensures lines { IfOk result (λ lines. lines ≡ logical_lines text.now) }
-    ensures is_cut { IfOk result (λ lines. IsCut text.now lines) }
-    ensures within { IfOk result (λ lines. All (IsLineIn (length text.now)) lines) }
-{
-    let start = mark_len(text);
-    let lines = lines_of(alloc, text, start, pieces)?;
-    Ok(lines)
-}
-
 // The logical lines of a text, by its characters.
 fn lines_of_text(alloc: Global, text: &[char]) -> Result<List<LogicalLine>, NoMemory>
     requires { length text.now ≤ 524288 }
@@ -71,8 +42,9 @@ fn lines_of_text(alloc: Global, text: &[char]) -> Result<List<LogicalLine>, NoMe
     ensures is_cut { IfOk result (λ lines. IsCut text.now lines) }
     ensures within { IfOk result (λ lines. All (IsLineIn (length text.now)) lines) }
 {
-    let pieces = pieces(alloc, behind_mark(text))?;
-    let lines = lines_of_cut(alloc, text, &pieces)?;
+    let start = mark_len(text);
+    let pieces = pieces(alloc, &text[start..])?;
+    let lines = lines_of(alloc, text, start, &pieces)?;
     Ok(lines)
 }
 

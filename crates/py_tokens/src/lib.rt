@@ -24,7 +24,6 @@ mod literals;
 mod numbers;
 mod opens;
 mod pieces;
-mod plain;
 mod rows;
 mod signs;
 mod states;
@@ -36,7 +35,3 @@ pub use ints::int_value;
 pub use kinds::{TokenFault, TokenKind};
 pub use lines::{Cut, LogicalLine, Token};
 pub use literals::{StringValue, string_value};
-pub use plain::plain_cut;
-
-#[cfg(test)]
-mod tests;

@@ -102,10 +102,8 @@ fn text_of(text: &[char], x: Placed) -> &[char]
 fn spelled(alloc: Global, text: &[char]) -> Result<Text, NoMemory>
     ensures { IfOk result (λ t. t ≡ encode_utf8_all text.now) }
 {
-    match text.iter().copied().collect(alloc) {
-        Ok(string) => Ok(Text::from_string(string)),
-        Err(_) => Err(NoMemory),
-    }
+    let string = text.iter().copied().collect(alloc)?;
+    Ok(Text::from_string(string))
 }
 
 fn token_of(alloc: Global, text: &[char], x: Placed, kind: TokenKind) -> Result<Token, NoMemory>
@@ -281,10 +279,8 @@ fn end_line(alloc: Global, text: &[char], lines: &mut Lines) -> Result<(), NoMem
 fn push_placed(line: &mut Vec<Placed>, x: Placed) -> Result<(), NoMemory>
     ensures { OnOk result (line.new.items ≡ line.old.items ++ x ∷ []) }
 {
-    match line.push(x) {
-        Ok(()) => Ok(()),
-        Err(_) => Err(NoMemory),
-    }
+    line.push(x)?;
+    Ok(())
 }
 
 // The next piece ends the line or joins it: with any pieces behind it, the lines are as before.

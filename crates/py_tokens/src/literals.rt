@@ -30,10 +30,8 @@ pub enum StringValue {
 fn push_char(out: &mut Vec<char>, c: char) -> Result<(), NoMemory>
     ensures { OnOk result (out.new.items ≡ out.old.items ++ c ∷ []) }
 {
-    match out.push(c) {
-        Ok(()) => Ok(()),
-        Err(_) => Err(NoMemory),
-    }
+    out.push(c)?;
+    Ok(())
 }
 
 // Reads an escape behind its backslash: how many characters it takes, if it is known.
@@ -103,10 +101,8 @@ fn decoded(
     if !raw {
         return decode(alloc, bytes, body);
     }
-    match Vec::from_slice(alloc, body) {
-        Ok(out) => Ok(Some(out)),
-        Err(_) => Err(NoMemory),
-    }
+    let out = Vec::from_slice(alloc, body)?;
+    Ok(Some(out))
 }
 
 fn low_byte(c: char) -> u8
@@ -124,19 +120,15 @@ fn is_ascii(c: char) -> bool
 fn text_of_chars(alloc: Global, characters: &[char]) -> Result<Text, NoMemory>
     ensures { IfOk result (λ text. text ≡ encode_utf8_all characters.now) }
 {
-    match characters.iter().copied().collect(alloc) {
-        Ok(string) => Ok(Text::from_string(string)),
-        Err(_) => Err(NoMemory),
-    }
+    let string = characters.iter().copied().collect(alloc)?;
+    Ok(Text::from_string(string))
 }
 
 fn low_bytes(alloc: Global, characters: &[char]) -> Result<List<u8>, NoMemory>
     ensures { IfOk result (λ bytes. bytes ≡ map low_byte characters.now) }
 {
-    match characters.iter().map(|c| low_byte(*c)).collect(alloc) {
-        Ok(bytes) => Ok(List::from_vec(bytes)),
-        Err(_) => Err(NoMemory),
-    }
+    let bytes = characters.iter().map(|c| low_byte(*c)).collect(alloc)?;
+    Ok(List::from_vec(bytes))
 }
 
 fn text_value(alloc: Global, found: Option<Vec<char>>) -> Result<StringValue, NoMemory>

@@ -137,10 +137,8 @@ fn depth_after(depth: usize, c: char) -> usize
 fn push(nests: &mut VecDeque<Nest>, nest: Nest) -> Result<(), NoMemory>
     ensures { OnOk result (nests.new.items ≡ nest ∷ nests.old.items) }
 {
-    match nests.push_front(nest) {
-        Ok(()) => Ok(()),
-        Err(_) => Err(NoMemory),
-    }
+    nests.push_front(nest)?;
+    Ok(())
 }
 
 fn bracket_in(nests: &VecDeque<Nest>) -> Nest

@@ -10,19 +10,10 @@ use crate::rows::piece_at;
 use py_base::NoMemory;
 use std::alloc::Global;
 
-pub fn is_done(opens: &Opens, rest: &[char]) -> bool
+fn is_done(opens: &Opens, rest: &[char]) -> bool
     ensures { result ≡ is_done opens.now rest.now }
 {
     !is_some_open(opens) && rest.is_empty()
-}
-
-pub fn push_piece(out: &mut Vec<Piece>, piece: Piece) -> Result<(), NoMemory>
-    ensures { OnOk result (out.new.items ≡ out.old.items ++ piece ∷ []) }
-{
-    match out.push(piece) {
-        Ok(()) => Ok(()),
-        Err(_) => Err(NoMemory),
-    }
 }
 
 /// The pieces of a text.
@@ -38,7 +29,7 @@ pub fn pieces(alloc: Global, text: &[char]) -> Result<Vec<Piece>, NoMemory>
         let piece = piece_at(here(&opens, after_number), rest);
         after(&mut opens, piece.kind, &rest[..piece.len])?;
         after_number = is_number(piece.kind);
-        push_piece(&mut out, piece)?;
+        out.push(piece)?;
         rest = &rest[piece.len..];
     }
     Ok(out)

@@ -167,7 +167,7 @@ pub fn row_at(here: Here, text: &[char]) -> Row
     }
 }
 
-pub fn run_kind(class: Class, text: &[char]) -> Kind
+fn run_kind(class: Class, text: &[char]) -> Kind
     ensures { result ≡ run_kind class text.now }
 {
     match class {

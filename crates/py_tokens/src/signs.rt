@@ -93,7 +93,7 @@ fn is_conversion(in_field: bool, text: &[char]) -> bool
     }
 }
 
-pub fn sign_kind(in_field: bool, text: &[char]) -> Option<Kind>
+fn sign_kind(in_field: bool, text: &[char]) -> Option<Kind>
     ensures { result ≡ sign_kind in_field text.now }
 {
     if is_operator(in_field, text) {

@@ -20,8 +20,7 @@ pub enum State {
     Text(bool, Quotes, InText),
 }
 
-/// A kind, or nothing.
-pub fn when(holds: bool, kind: Kind) -> Option<Kind>
+fn when(holds: bool, kind: Kind) -> Option<Kind>
     ensures { result ≡ when holds kind }
 {
     if holds { Some(kind) } else { None }

@@ -17,7 +17,7 @@ use crate::line_fault::line_fault;
 use crate::line_type::LineType;
 use crate::listing::{Reading, TEXT_LIMIT, only, read_lines, too_long};
 use py_base::{Diag, LineMap, List, NoMemory};
-use py_tokens::{LogicalLine, plain_cut};
+use py_tokens::{LogicalLine, cut};
 use std::alloc::Global;
 
 /// A name with the type that a line bound it to.
@@ -36,7 +36,7 @@ pub fn plain_list(alloc: Global, text: &str) -> Result<List<Diag>, NoMemory>
         return only(alloc, too_long(alloc)?);
     }
     let places = LineMap::new(alloc, text)?;
-    let cut = plain_cut(alloc, text)?;
+    let cut = cut(alloc, text)?;
     plain_list_of_lines(alloc, &places, cut.lines.as_slice())
 }
 

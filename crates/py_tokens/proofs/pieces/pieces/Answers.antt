@@ -15,9 +15,9 @@ loop-rest-smaller c =
 pub loop-rest-preserved : goal.loop-rest-preserved
 loop-rest-preserved c = record {
   cuts = λ ps cut.
-      cut_step c.loop-rest.opens c.after.new.opens c.loop-rest.after_number c.is_number-after_number.result c.args.text.now c.loop-rest.rest.now _ _ _ c.piece_at-piece.result c.loop-rest.out.items c.push_piece.new.out.items ps c.loop-rest.invariant.cuts
-      (sym c.is_done.ensures ∙ c.loop-rest-test.true) c.here.ensures c.piece_at-piece.ensures.fits c.in_ok-after.ensures refl c.is_number-after_number.ensures (take_rest c.loop-rest.rest.now c.piece_at-piece.result.len) c.in_ok-push_piece.ensures cut;
-  whole = whole_step c.loop-rest.out.items c.push_piece.new.out.items c.piece_at-piece.result c.loop-rest.rest.now _ _ c.loop-rest.invariant.whole c.piece_at-piece.ensures.within (take_rest c.loop-rest.rest.now c.piece_at-piece.result.len) c.in_ok-push_piece.ensures;
+      cut_step c.loop-rest.opens c.after.new.opens c.loop-rest.after_number c.is_number-after_number.result c.args.text.now c.loop-rest.rest.now _ _ _ c.piece_at-piece.result c.loop-rest.out.items c.push.new.self.items ps c.loop-rest.invariant.cuts
+      (sym c.is_done.ensures ∙ c.loop-rest-test.true) c.here.ensures c.piece_at-piece.ensures.fits c.in_ok-after.ensures refl c.is_number-after_number.ensures (take_rest c.loop-rest.rest.now c.piece_at-piece.result.len) c.in_ok-push.ensures.items cut;
+  whole = whole_step c.loop-rest.out.items c.push.new.self.items c.piece_at-piece.result c.loop-rest.rest.now _ _ c.loop-rest.invariant.whole c.piece_at-piece.ensures.within (take_rest c.loop-rest.rest.now c.piece_at-piece.result.len) c.in_ok-push.ensures.items;
 }
 
 pub returns-clause-cut : goal.returns-clause-cut

@@ -1,4 +1,4 @@
-use Rattle.std.proofs.Common.{◌≡◌, [], ◌+◌, ◌*◌, List, ◌++◌, length, false, sum_by}
+use Rattle.std.proofs.Common.{◌≡◌, ◌+◌, ◌*◌, List, ◌++◌, length, false, sum_by}
 use Rattle.py_tokens.specs.Nesting.{none_open}
 use Rattle.py_tokens.specs.Opens.{is_some_open}
 use Rattle.py_tokens.specs.Cut.{Cut}
