@@ -9,6 +9,3 @@
 mod levels;
 
 pub use levels::{expression, one_tree};
-
-#[cfg(test)]
-mod tests;

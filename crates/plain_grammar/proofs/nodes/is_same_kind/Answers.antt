@@ -1,7 +1,0 @@
-use Rattle.std.proofs.Common.{sym, ◌∙◌, rules}
-use denote.Enum.Bare.{same_true, true_same}
-use Rattle.py_base.specs.contracts.node.NodeKind.{the_type}
-use Rattle.plain_grammar.proofs.nodes.is_same_kind.Goals as goal
-
-pub returns : goal.returns
-returns c = (λ is. same_true the_type (search rules) _ _ (sym c.eq.ensures ∙ is), λ e. c.eq.ensures ∙ true_same the_type _ _ e)
