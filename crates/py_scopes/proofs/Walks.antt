@@ -1,7 +1,7 @@
 -- Lemmas on loops over lists, item by item.
 use Rattle.std.proofs.Common.{◌≡◌, ℕ, zero, suc, ◌+◌, ◌-◌, ◌<◌, ◌≤◌, List, [], ◌∷◌, ◌++◌, length, take, drop, get_or, map, refl, sym, ap, ◌∙◌, append_assoc, length-append, arith}
 use Rattle.std.proofs.lemmas.List.{map-append}
-use Rattle.std.specs.Prelude.{Option, Some, None, slice_get, position, filter_map, fold, Bool, true, false}
+use Rattle.std.specs.Prelude.{Option, Some, None, slice_get, filter_map, fold, Bool, true, false}
 use Rattle.std.specs.Option.{option_to_list}
 use Rattle.std.specs.List.{position_or_len, cons_option}
 use Rattle.std.proofs.lemmas.List.Elements.{filter_map-append}
@@ -13,7 +13,7 @@ use Rattle.std.proofs.Math.Seq.{drop-cons}
 use Rattle.py_base.specs.declared.ids.NodeId.{NodeId}
 use Rattle.py_base.specs.declared.node.Node.{Node}
 use Rattle.py_scopes.specs.declared.way.Step.{Step}
-use Rattle.py_scopes.specs.Way.{same_node, step_from, step_if, step_among, step_out, go_on, steps}
+use Rattle.py_scopes.specs.Way.{step_out, go_on, steps}
 
 -- what is left of a list begins with the item that is next
 pub drop-next : {X : Type 0} (xs : List X) (i : ℕ) (x : X) → slice_get xs i ≡ Some x → drop i xs ≡ x ∷ drop (i + 1) xs
@@ -22,18 +22,6 @@ drop-next xs i x e =
     let here : get_or xs i x ≡ x = get_or_from_slice_get xs i x x e in
     let next : i + 1 ≡ suc i = omega arith in
     drop-cons xs i x within ∙ ap (λ y. y ∷ drop (suc i) xs) here ∙ ap (λ k. x ∷ drop k xs) (sym next)
-
-pub step-found : (nodes : List Node) (id : NodeId) (at i : ℕ) (n : Node) → slice_get nodes at ≡ Some n → position (λ p. same_node p id) n.parts ≡ Some i
-    → step_among nodes id at (drop at nodes) ≡ Some (step_from nodes at n i)
-step-found nodes id at i n e f =
-    ap (λ ns. step_among nodes id at ns) (drop-next nodes at n e) ∙ ap (λ o. step_if nodes at n o (step_among nodes id (suc at) (drop (at + 1) nodes))) f
-
-pub step-passed : (nodes : List Node) (id : NodeId) (at : ℕ) (n : Node) → slice_get nodes at ≡ Some n → position (λ p. same_node p id) n.parts ≡ None
-    → step_among nodes id at (drop at nodes) ≡ step_among nodes id (at + 1) (drop (at + 1) nodes)
-step-passed nodes id at n e f =
-    let next : suc at ≡ at + 1 = omega arith in
-    ap (λ ns. step_among nodes id at ns) (drop-next nodes at n e) ∙ ap (λ o. step_if nodes at n o (step_among nodes id (suc at) (drop (at + 1) nodes))) f
-    ∙ ap (λ k. step_among nodes id k (drop (at + 1) nodes)) next
 
 -- one step of the way more
 pub steps-more : (nodes : List Node) (id : NodeId) (way longer : List Step) (taken : ℕ) (s : Step) → taken < length nodes → step_out nodes id ≡ Some s → longer ≡ way ++ s ∷ []
@@ -109,9 +97,3 @@ at_most_one (Some y) = omega arith
 -- a list that takes at most one item a time is no longer than so many times
 pub room-step : {Y : Type 0} (old new : List Y) (o : Option Y) (n : ℕ) → new ≡ old ++ option_to_list o → length old ≤ n → length new ≤ n + 1
 room-step old new o n made before = let e : length new ≡ length old + length (option_to_list o) = ap length made ∙ length-append old (option_to_list o) in omega (arith, e, at_most_one o)
-
-pub kept-items-step : {X Y : Type 0} (f : X → Option Y) (xs : List X) (i : ℕ) (x : X) (old new : List Y) (o : Option Y) → i < length xs → x ≡ get_or xs i x → new ≡ old ++ option_to_list o → o ≡ f x
-    → old ≡ filter_map f (take i xs) → new ≡ filter_map f (take (i + 1) xs)
-kept-items-step f xs i x old new o lt here made is before =
-    let item = slice_get_read xs (length xs) i x refl lt here in
-    made ∙ ap (λ a. a ++ option_to_list o) before ∙ ap (λ p. filter_map f (take i xs) ++ option_to_list p) is ∙ sym (kept-next f xs i x item)

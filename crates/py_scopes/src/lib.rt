@@ -11,7 +11,7 @@
 //!
 //! `scopes` goes over the nodes, the occurrences and the symbols a few times each, and at a name outward
 //! over the nodes around it: tables hold the node around each node and what is said of a name in each
-//! scope (`specs/Tables.antt`). `plain_scopes` has the same contract, and searches everything each time.
+//! scope (`specs/Tables.antt`).
 //!
 //! Below this crate stands `py_base` alone, and the kit's `indexmap`.
 #![tactic(auto)]
@@ -22,7 +22,6 @@ mod kinds;
 mod members;
 mod occurrence;
 mod owner;
-mod plain;
 mod roles;
 mod said;
 mod scope;
@@ -33,8 +32,4 @@ mod way;
 pub use build::scopes;
 pub use kinds::does_bind;
 pub use owner::Owner;
-pub use plain::plain_scopes;
 pub use table::Scopes;
-
-#[cfg(test)]
-mod tests;

@@ -436,8 +436,8 @@ fn occurrence_on(
     })
 }
 
-/// The name that a leaf is.
-pub(crate) fn leaf_name(tree: &Tree, id: NodeId) -> Option<NameId>
+// The name that a leaf is.
+fn leaf_name(tree: &Tree, id: NodeId) -> Option<NameId>
     ensures { result ≡ leaf_name (slice_get tree.now.nodes id.0) }
 {
     if (id.0 as usize) >= tree.node_count() {
@@ -451,9 +451,9 @@ pub(crate) fn leaf_name(tree: &Tree, id: NodeId) -> Option<NameId>
     }
 }
 
-/// The occurrence of a name at a node from which this way leads out, `None` exactly where the name
-/// doesn't count. `NoMemory` where it could not be stored.
-pub(crate) fn occurrence_if(
+// The occurrence of a name at a node from which this way leads out, `None` exactly where the name
+// doesn't count.
+fn occurrence_if(
     alloc: Global,
     tree: &Tree,
     id: NodeId,
@@ -488,8 +488,8 @@ pub(crate) fn occurrence_at(
     occurrence_if(alloc, tree, id, name, way.as_slice())
 }
 
-/// Adds an item, where there is one. `NoMemory` where it could not be stored.
-pub(crate) fn push_some<T: Drop>(items: &mut List<T>, item: Option<T>) -> Result<(), NoMemory>
+// Adds an item, where there is one.
+fn push_some<T: Drop>(items: &mut List<T>, item: Option<T>) -> Result<(), NoMemory>
     ensures { OnOk result (items.new ≡ items.old ++ option_to_list item) }
 {
     match item {

@@ -1,7 +1,7 @@
 //! What a name is there for, asked one by one.
 ghost use Rattle.std.specs.Prelude.{◌≡◌};
 ghost use Rattle.py_scopes.specs.Owner.{is_binding, is_global_name, is_nonlocal_name};
-ghost use Rattle.py_scopes.specs.Members.{is_first, is_static_of};
+ghost use Rattle.py_scopes.specs.Members.{is_first};
 ghost use Rattle.py_scopes.specs.Table.{earlier, bound_node};
 
 use crate::occurrence::{Annotation, Role};
@@ -30,16 +30,6 @@ pub(crate) fn is_first(role: Role) -> bool
     ensures { result ≡ is_first role }
 {
     matches!(role, Role::FirstParameter)
-}
-
-/// Whether it is `staticmethod` as a decorator of this statement.
-pub(crate) fn is_static_of(statement: NodeId, role: Role) -> bool
-    ensures { result ≡ is_static_of statement role }
-{
-    match role {
-        Role::Static(other) => other.0 == statement.0,
-        _ => false,
-    }
 }
 
 /// The node that gets a value: the name, or the target `p.m` whose `p` it is.

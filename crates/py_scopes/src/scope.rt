@@ -68,29 +68,26 @@ fn is_of_types(kind: ScopeKind) -> bool
     matches!(kind, ScopeKind::TypeParameters)
 }
 
-/// Whether both are one scope.
-pub(crate) fn is_same_scope(one: Scope, other: Scope) -> bool
+fn is_same_scope(one: Scope, other: Scope) -> bool
     ensures { result ≡ same_scope one other }
 {
     one.node.0 == other.node.0 && is_of_types(one.kind) == is_of_types(other.kind)
 }
 
-/// Whether both are one name.
-pub(crate) fn is_same_name(one: NameId, other: NameId) -> bool
+fn is_same_name(one: NameId, other: NameId) -> bool
     ensures { result ≡ same_name one other }
 {
     one.0 == other.0
 }
 
-/// Whether both are one symbol.
-pub(crate) fn is_same_symbol(one: Symbol, other: Symbol) -> bool
+fn is_same_symbol(one: Symbol, other: Symbol) -> bool
     ensures { result ≡ same_symbol one other }
 {
     is_same_name(one.name, other.name) && is_same_scope(one.scope, other.scope)
 }
 
-/// Whether the scope is the innermost of these.
-pub(crate) fn is_innermost(scope: Scope, scopes: &[Scope]) -> bool
+// Whether the scope is the innermost of these.
+fn is_innermost(scope: Scope, scopes: &[Scope]) -> bool
     ensures { result ≡ is_innermost scope scopes.now }
 {
     match scopes.split_first() {

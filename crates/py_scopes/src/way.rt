@@ -28,8 +28,8 @@ pub struct Step {
     pub first_for: usize,
 }
 
-/// The kind of a node; `Fault` where the tree has no such node.
-pub(crate) fn kind_of(tree: &Tree, id: NodeId) -> NodeKind
+// The kind of a node; `Fault` where the tree has no such node.
+fn kind_of(tree: &Tree, id: NodeId) -> NodeKind
     ensures { result ≡ kind_at tree.now.nodes id }
 {
     if (id.0 as usize) < tree.node_count() {
@@ -39,8 +39,8 @@ pub(crate) fn kind_of(tree: &Tree, id: NodeId) -> NodeKind
     }
 }
 
-/// The place of the first `for` of a comprehension among the parts, or their number.
-pub(crate) fn first_for(tree: &Tree, parts: &[NodeId]) -> usize
+// The place of the first `for` of a comprehension among the parts, or their number.
+fn first_for(tree: &Tree, parts: &[NodeId]) -> usize
     ensures { result ≡ position_or_len (λ p. is_for (kind_at tree.now.nodes p)) parts.now }
 {
     for (place, part) in parts.iter().enumerate() {
@@ -61,14 +61,8 @@ fn kind_of_part(tree: &Tree, at: NodeId, parts: &[NodeId], place: usize) -> Node
     }
 }
 
-/// The step from the part at the place to the node, whose first `for` of a comprehension is known.
-pub(crate) fn step_from(
-    tree: &Tree,
-    at: NodeId,
-    node: &Node,
-    place: usize,
-    first_for: usize,
-) -> Step
+// The step from the part at the place to the node, whose first `for` of a comprehension is known.
+fn step_from(tree: &Tree, at: NodeId, node: &Node, place: usize, first_for: usize) -> Step
     requires { first_for ≡ position_or_len (λ p. is_for (kind_at tree.now.nodes p)) node.now.parts }
     ensures { result ≡ step_from tree.now.nodes at.0 node.now place }
 {

@@ -1,8 +1,0 @@
-use Rattle.std.proofs.Common.{sym, ◌∙◌, arith}
-use Rattle.py_scopes.proofs.Walks.{steps-more}
-use Rattle.py_scopes.proofs.plain.way.way_out.Goals as goal
-
-pub loop-taken-preserved : goal.loop-taken-preserved
-loop-taken-preserved c =
-    let nodes = c.args.tree.now.nodes in
-    steps-more nodes c.loop-taken.at c.loop-taken.way c.push.new.self c.loop-taken.taken c.in-Some.step (omega arith) (sym c.step_out.ensures ∙ c.in-Some.is) c.in_ok-push.ensures.ok ∙ c.loop-taken.invariant
