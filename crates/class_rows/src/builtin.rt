@@ -13,7 +13,7 @@ fn at(classes: &[Builtin], place: usize) -> Option<Builtin>
 
 /// A builtin class. They stand in the order of their class numbers, and the classes of a file have
 /// the numbers behind theirs.
-#[derive(Clone, Copy, Debug, PartialEq, Eq)]
+#[derive(Clone, Copy, PartialEq, Eq)]
 pub enum Builtin {
     Object,
     Type,

@@ -3,7 +3,7 @@
 use py_base::{ClassId, List, NameId, SymId};
 
 /// A base of a class.
-#[derive(Clone, Copy, Debug, PartialEq, Eq)]
+#[derive(Clone, Copy, PartialEq, Eq)]
 pub enum Base {
     /// A builtin class or a class of the file.
     Known(ClassId),
@@ -13,7 +13,7 @@ pub enum Base {
 
 /// A class statement: the name of the class, its bases in the order of the text, and the symbols
 /// of its members. Where a name comes twice among the members, its first symbol counts.
-#[derive(Debug, Drop)]
+#[derive(Drop)]
 pub struct ClassHead {
     pub name: NameId,
     pub bases: List<Base>,

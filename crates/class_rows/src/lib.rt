@@ -26,7 +26,6 @@ pub mod laws;
 mod linear;
 mod members;
 mod merge;
-pub mod plain;
 mod remainder;
 mod row;
 mod rows;
@@ -35,6 +34,3 @@ pub use bases::bases_are_earlier;
 pub use builtin::Builtin;
 pub use head::{Base, ClassHead};
 pub use rows::ClassRows;
-
-#[cfg(test)]
-mod tests;

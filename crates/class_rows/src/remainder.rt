@@ -7,7 +7,7 @@ use py_base::ClassId;
 use std::marker::Model;
 
 /// The classes of a list that aren't taken yet, in order. A contract sees it as the list of these.
-#[derive(Debug, Drop)]
+#[derive(Drop)]
 pub(crate) struct Remainder {
     classes: Vec<ClassId>,
     taken: usize,

@@ -10,7 +10,7 @@ use std::marker::Model;
 
 /// The row of a class: its order, whether that is an order by the rule of C3, whether the class
 /// has an Unknown base, and its own members.
-#[derive(Debug, Drop)]
+#[derive(Drop)]
 pub(crate) struct Row {
     order: List<ClassId>,
     ordered: bool,

@@ -20,7 +20,7 @@ pub const MOST_HEADS: usize = 1_000_000_000;
 /// The builtin classes have the first numbers and the classes of the file those behind them, in the
 /// order of the heads. The calls after `build` take no memory. Each of them asks that the class has
 /// a row, which `has_class` tells.
-#[derive(Debug, Drop)]
+#[derive(Drop)]
 pub struct ClassRows {
     rows: List<Row>,
 }

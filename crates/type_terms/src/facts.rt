@@ -6,7 +6,7 @@ use crate::types::Type;
 use py_base::{ClassId, FuncId, List, NameId, NodeId, SiteId};
 
 /// How a def stands in the text.
-#[derive(Clone, Copy, Debug, PartialEq, Eq)]
+#[derive(Clone, Copy, PartialEq, Eq)]
 pub enum FuncKind {
     /// A def outside a class, or a lambda.
     Plain,
@@ -21,7 +21,7 @@ pub enum FuncKind {
 }
 
 /// How a parameter takes its argument.
-#[derive(Clone, Copy, Debug, PartialEq, Eq)]
+#[derive(Clone, Copy, PartialEq, Eq)]
 pub enum ParamKind {
     /// By place alone, before `/`.
     PlaceOnly,

@@ -21,8 +21,6 @@ pub mod plain;
 pub mod rows;
 pub mod show;
 mod shown;
-#[cfg(test)]
-mod tests;
 pub mod text;
 pub mod types;
 mod union;

@@ -3,7 +3,7 @@
 use py_base::ClassId;
 
 /// How a member of a type is shown.
-#[derive(Clone, Copy, Debug, PartialEq, Eq)]
+#[derive(Clone, Copy, PartialEq, Eq)]
 pub enum Shown {
     /// Not at all.
     Dropped,
