@@ -1,10 +1,6 @@
 -- What is seen of lines, line by line.
-use Rattle.std.proofs.Common.{◌≡◌, ◌↔◌, IsTrue, Bool, true, false, ◌&&◌, Option, Some, None, ℕ, zero, suc, ◌+◌, ◌<◌, ◌≤◌, List, [], ◌∷◌, ◌++◌, length, drop, get_or, map, refl, sym, ◌∙◌, ap, arith, append_assoc, append-nil, drop-cons}
+use Rattle.std.proofs.Common.{◌≡◌, ℕ, zero, suc, ◌+◌, ◌<◌, ◌≤◌, List, [], ◌∷◌, ◌++◌, length, drop, get_or, map, refl, sym, ◌∙◌, ap, arith, append_assoc, append-nil, drop-cons}
 use Rattle.std.proofs.Math.ListN.{drop_of_length-le}
-use Rattle.std.proofs.lemmas.Bool.{ltb-true, lt-ltb}
-use Rattle.std.specs.List.{list_all}
-use Rattle.py_base.specs.declared.ids.NodeId.{NodeId}
-use Rattle.py_blocks.specs.Shortcuts.{is_node_of}
 use Rattle.py_base.specs.Tree.{Arena}
 use Rattle.py_blocks.specs.declared.fault.BlockLine.{BlockLine}
 use Rattle.py_blocks.specs.declared.facts.LineFacts.{LineFacts}
@@ -26,30 +22,3 @@ rows-next a lines i d old new all fact lt e f h =
 pub rows-end : (a : Arena) (lines : List BlockLine) (i : ℕ) (old all : List LineFacts) → length lines ≤ i → old ++ map facts_of (rows_of a (drop i lines)) ≡ all → old ≡ all
 rows-end a lines i old all le h =
     sym (append-nil old) ∙ (ap (λ ls. old ++ map facts_of (rows_of a ls)) (sym (drop_of_length-le lines le)) ∙ h)
-
-is-node : (n : ℕ) (tree : Option NodeId) → IsTrue (is_node_of n tree) → IsNodeOf n tree
-is-node n None h = tt
-is-node n (Some id) h = ltb-true id.0 n h
-
-node-is : (n : ℕ) (tree : Option NodeId) → IsNodeOf n tree → IsTrue (is_node_of n tree)
-node-is n None h = refl
-node-is n (Some id) h = lt-ltb id.0 n h
-
-both : (a b : Bool) → (a && b) ≡ true → (a ≡ true) × (b ≡ true)
-both true b h = (refl, h)
-both false b h = cc
-
-both-true : (a b : Bool) → a ≡ true → b ≡ true → (a && b) ≡ true
-both-true a b e f = rw (e, f) refl
-
-all-nodes : (n : ℕ) (lines : List BlockLine) → list_all (λ line. is_node_of n line.tree) lines ≡ true → AreNodesOf n lines
-all-nodes n [] h = tt
-all-nodes n (x ∷ lines) h =
-    let (a, b) = both (is_node_of n x.tree) (list_all (λ line. is_node_of n line.tree) lines) h in (is-node n x.tree a, all-nodes n lines b)
-
-nodes-all : (n : ℕ) (lines : List BlockLine) → AreNodesOf n lines → list_all (λ line. is_node_of n line.tree) lines ≡ true
-nodes-all n [] h = refl
-nodes-all n (x ∷ lines) (h, k) = both-true _ _ (node-is n x.tree h) (nodes-all n lines k)
-
-pub nodes-decide : (n : ℕ) (lines : List BlockLine) → IsTrue (list_all (λ line. is_node_of n line.tree) lines) ↔ AreNodesOf n lines
-nodes-decide n lines = (all-nodes n lines, nodes-all n lines)

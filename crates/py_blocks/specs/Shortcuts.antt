@@ -1,16 +1,9 @@
--- Tests on all lines at once: whether a rule need be looked at, and whether each tree is there (Python 3.12 language reference, 8.6, "The match
--- statement").
-use Rattle.std.specs.Prelude.{ℕ, nat_lt, Bool, true, count_by, Option, Some, None, List}
-use Rattle.py_base.specs.declared.ids.NodeId.{NodeId}
+-- The lines in whose blocks a line stands, and of which sorts they are (Python 3.12 language reference, 2.1.8, "Indentation").
+use Rattle.std.specs.Prelude.{ℕ, Bool, count_by, List}
 use Rattle.std.specs.List.{list_any, filter, range_with_len}
 use Rattle.py_blocks.specs.declared.facts.LineFacts.{LineFacts}
 use Rattle.py_blocks.specs.Blocks.{is_a, encloses}
 use Rattle.py_blocks.specs.declared.sort.Sort.{Sort}
-
--- the tree is a node, of which there are n
-abbrev pub is_node_of : ℕ → Option NodeId → Bool
-is_node_of n None = true
-is_node_of n (Some id) = nat_lt id.0 n
 
 -- THE OPEN BLOCKS at a line: the lines in whose blocks it stands, the outermost first
 abbrev pub open_at : List LineFacts → ℕ → List ℕ

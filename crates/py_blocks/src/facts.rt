@@ -1,8 +1,6 @@
 //! What the rules of blocks see of a logical line.
-ghost use Rattle.std.specs.Prelude.{◌≡◌, ◌<◌, ◌↔◌, length, map, IfOk, IsTrue};
+ghost use Rattle.std.specs.Prelude.{◌≡◌, ◌<◌, length, map, IfOk};
 ghost use Rattle.py_base.specs.Tree.{tree_of, IsLinked};
-ghost use Rattle.std.specs.List.{list_all};
-ghost use Rattle.py_blocks.specs.Shortcuts.{is_node_of};
 ghost use Rattle.py_blocks.specs.Facts.{facts_without, facts_with, facts_of};
 ghost use Rattle.py_blocks.specs.Faults.{row_of, rows_of, IsNodeOf, AreNodesOf};
 
@@ -106,28 +104,6 @@ fn facts_of(alloc: Global, tree: &Tree, line: &BlockLine) -> Result<LineFacts, N
         (None, None) => Ok(facts_without(alloc, line.column, None)),
         (None, Some(id)) => facts_with(alloc, tree, line.column, id),
     }
-}
-
-fn is_node(tree: &Tree, line: &BlockLine) -> bool
-    ensures { result ≡ is_node_of (length tree.now.nodes) line.now.tree }
-{
-    match line.tree {
-        Some(id) => (id.0 as usize) < tree.node_count(),
-        None => true,
-    }
-}
-
-fn are_all_nodes(tree: &Tree, lines: &[BlockLine]) -> bool
-    ensures { result ≡ list_all (λ line. is_node_of (length tree.now.nodes) line.tree) lines.now }
-{
-    lines.iter().all(|line| is_node(tree, line))
-}
-
-/// Whether each line's tree is a node of the tree, as `first_fault` asks.
-pub fn are_nodes(tree: &Tree, lines: &[BlockLine]) -> bool
-    ensures { IsTrue result ↔ AreNodesOf (length tree.now.nodes) lines.now }
-{
-    are_all_nodes(tree, lines)
 }
 
 /// What the rules see of each line of a text. `NoMemory` where it could not be stored.

@@ -18,8 +18,7 @@
 //!
 //! The time grows with the lines, and the names that they declare nonlocal, times the depth of their
 //! blocks; with the nodes of the lines' trees times the height of these; and with the names times the
-//! logarithm of their number. `plain` is the slow program beside it, which searches all lines as the
-//! definitions do, over the same facts.
+//! logarithm of their number.
 //!
 //! Below stand `py_base` (trees) and `py_tokens` (faults of tokens).
 #![tactic(auto)]
@@ -36,7 +35,6 @@ mod name_sets;
 mod names;
 mod neighbours;
 mod open_blocks;
-mod plain;
 mod role;
 mod rules;
 mod scopes;
@@ -44,10 +42,5 @@ mod sort;
 mod tables;
 mod walk;
 
-pub use facts::are_nodes;
 pub use fault::{BlockLine, FaultyLine, LineFaultKind};
 pub use first::first_fault;
-pub use plain::plain_fault;
-
-#[cfg(test)]
-mod tests;

@@ -15,6 +15,3 @@ mod texts;
 
 pub use lines::{line_tree, one_line_tree};
 pub use texts::{Module, blocks};
-
-#[cfg(test)]
-mod tests;

@@ -144,6 +144,3 @@ pub fn blocks(alloc: Global, cut: &Cut) -> Result<Module, NoMemory>
         }
     }
 }
-
-#[cfg(test)]
-mod tests;
