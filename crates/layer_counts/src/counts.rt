@@ -2,6 +2,7 @@
 ghost use Rattle.std.specs.Prelude.{◌≡◌, length};
 
 use flow_graph::build;
+use py_base::tree::TREE_ROOM;
 use py_base::{List, NoMemory, Node, NodeKind, Span, Tree, Word};
 use py_exprs::expression;
 use py_scopes::{Scopes, scopes};
@@ -17,6 +18,9 @@ const MOST_BYTES: usize = 524_288;
 fn add_nodes(alloc: Global, number: u32) -> Result<usize, NoMemory> {
     let mut tree = Tree::new(alloc)?;
     for _ in 0..number {
+        if tree.node_count() + 1 >= TREE_ROOM {
+            return Err(NoMemory);
+        }
         tree.add(Node {
             kind: NodeKind::Name,
             span: Span { from: 0, to: 1 },
@@ -32,6 +36,9 @@ fn add_names(alloc: Global, number: u32) -> Result<usize, NoMemory> {
     let mut tree = Tree::new(alloc)?;
     for at in 0..number {
         let name = format!(in alloc; "name_{at}")?;
+        if tree.name_count() + 1 >= TREE_ROOM {
+            return Err(NoMemory);
+        }
         tree.intern(name.as_str())?;
     }
     Ok(tree.name_count())

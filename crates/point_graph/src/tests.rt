@@ -7,6 +7,7 @@ ghost use Rattle.py_base.specs.Tree.{AreOlder, IsNamed};
 
 use super::*;
 use flow_points::{EdgeKind, Point, Role};
+use py_base::tree::TREE_ROOM;
 use py_base::{List, NoMemory, Node, NodeId, NodeKind, PointId, Span, Tree, Word};
 use std::alloc::{AllocError, Global};
 use std::fmt::Write;
@@ -208,6 +209,9 @@ fn add_node(
     if !is_named(&word, names) {
         return Err(NoMemory);
     }
+    if nodes + 1 >= TREE_ROOM {
+        return Err(NoMemory);
+    }
     let id = sketch.tree.add(Node {
         kind,
         span: Span { from: 0, to: 0 },
@@ -249,6 +253,9 @@ fn add_name(
     sketch: &mut Sketch,
     stack: &mut Vec<Open>,
 ) -> Result<(), Fail> {
+    if sketch.tree.name_count() + 1 >= TREE_ROOM {
+        return Err(NoMemory.into());
+    }
     let name = sketch.tree.intern(word)?;
     let label = String::from_str(alloc, word)?;
     let id = add_node(

@@ -1,12 +1,21 @@
 -- No name of the language stands twice.
-use Rattle.std.proofs.Common.{◌≡◌, ℕ, zero, suc, ◌+◌, ◌<◌, Bool, true, false, not, ◌&&◌, List, [], ◌∷◌, ◌++◌, length, map, get_or, take, fold, refl, sym, ◌∙◌, arith, append_assoc, append-nil, Bor}
+use Rattle.std.proofs.Common.{◌≡◌, ℕ, zero, suc, ◌+◌, ◌<◌, Bool, true, false, not, ◌&&◌, List, [], ◌∷◌, ◌++◌, length, map, get_or, take, fold, refl, ◌≤◌, length-append, if◌then◌else◌, sym, ◌∙◌, arith, append_assoc, append-nil, Bor}
 use Rattle.std.specs.Prelude.{bytes_eq}
 use Rattle.std.specs.List.{list_any}
 use Rattle.std.proofs.Math.Seq.{take-length}
 use Rattle.std.proofs.lemmas.Bool.{and_parts}
 use Rattle.py_base.specs.declared.node.Node.{Node}
+use Rattle.py_base.specs.LanguageNames.{language_names, builtin_names}
 use Rattle.py_base.specs.Tree.{Arena, with_name, with_names}
-use Rattle.py_base.specs.declared.language_names.TheConstants.{LANGUAGE_NAMES}
+use Rattle.py_base.specs.declared.language_names.TheConstants.{LANGUAGE_NAMES, BUILTIN_NAMES}
+
+-- one name more at most
+pub one_more : (names more : List (List ℕ)) (text : List ℕ) → more ≡ with_name names text → length more ≤ length names + 1
+one_more names more text is = rw is (go (list_any (bytes_eq text) names))
+  where
+    go : (known : Bool) → length (if known then names else names ++ text ∷ []) ≤ length names + 1
+    go true = omega arith
+    go false = omega (arith, length-append names (text ∷ []))
 
 -- none of the texts is one of those before it
 abbrev pub are_new : List (List ℕ) → List (List ℕ) → Bool
@@ -15,6 +24,15 @@ are_new seen (x ∷ xs) = not (list_any (bytes_eq x) seen) && are_new (seen ++ x
 
 pub names_are_new : are_new [] (map (λ n. n.now) LANGUAGE_NAMES) ≡ true
 names_are_new = refl
+
+-- the constant has the names of the language
+pub names_are_listed : map (λ n. n.now) LANGUAGE_NAMES ≡ language_names
+unfolding language_names
+names_are_listed = refl
+
+pub builtins_are_listed : map (λ n. n.now) BUILTIN_NAMES ≡ builtin_names
+unfolding builtin_names
+builtins_are_listed = refl
 
 false_from : (b : Bool) → not b ≡ true → b ≡ false
 false_from true h = cc

@@ -1,3 +1,4 @@
+mod DiagLaws
 mod DistinctNames
 mod LinkLemmas
 mod NameLemmas

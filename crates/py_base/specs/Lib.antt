@@ -1,6 +1,11 @@
+pub mod Builtins
 pub mod Causes
+pub mod DiagOrder
+pub mod LanguageNames
 pub mod LineStarts
 pub mod Lines
+pub mod NodeOrder
+pub mod Nodes
 pub mod OneTree
 pub mod OneTreeLaws
 pub mod Places

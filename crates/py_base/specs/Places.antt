@@ -1,8 +1,9 @@
 -- A place of a text is a line and a column, and has an offset: the characters of the lines above it
 -- and the column. Stated over the lengths of the lines, each with its line end. All count characters
 -- from 0. The characters of a line end belong to the line that they end.
-use Rattle.std.specs.Prelude.{ℕ, ◌+◌, ◌-◌, ◌==◌, ◌&&◌, nat_lt, if◌then◌else◌, List, [], ◌∷◌, length, take, slice_index, sum, Option, Some, None}
+use Rattle.std.specs.Prelude.{ℕ, ◌≤◌, ◌+◌, ◌-◌, ◌==◌, ◌&&◌, nat_lt, if◌then◌else◌, List, [], ◌∷◌, length, take, slice_index, sum, Option, Some, None}
 use Rattle.py_base.specs.declared.span.Place.{Place}
+use Rattle.py_base.specs.declared.span.Span.{Span}
 
 -- the same column, one line down
 abbrev pub one_line_down : Place → Place
@@ -24,3 +25,15 @@ offset_of lengths place =
     if nat_lt place.line (length lengths) && nat_lt place.col (columns lengths place.line)
     then Some (sum (take place.line lengths) + place.col)
     else None
+
+-- line and column of a beginning, and then of an end
+abbrev pub four_numbers : Place → Place → List ℕ
+four_numbers from to = from.line ∷ from.col ∷ to.line ∷ to.col ∷ []
+
+-- where a span stands in a text whose lines, with their line ends, have these lengths
+abbrev pub at_of : List ℕ → Span → List ℕ
+at_of lengths span = four_numbers (place_of lengths span.from) (place_of lengths span.to)
+
+-- both ends of the span are in a text of so many characters, or at its end
+abbrev pub IsSpanIn : ℕ → Span → Type 0
+IsSpanIn count span = (span.from ≤ count) × (span.to ≤ count)

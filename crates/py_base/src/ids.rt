@@ -32,11 +32,22 @@ pub struct ClassId(pub u32);
 #[derive(Clone, Copy, Debug, PartialEq, Eq, PartialOrd, Ord, Hash)]
 pub struct NameId(pub u32);
 
+/// Which of the values of a call a site is: the iterable itself, or the tuples that it gives.
+#[derive(Clone, Copy, Debug, PartialEq, Eq, PartialOrd, Ord, Hash)]
+pub enum InnerTuple {
+    /// The value that the node itself makes.
+    None,
+    /// The pairs of `enumerate` and `items`: two slots.
+    Pair,
+    /// The tuples of `zip`: as many slots as the call has plain arguments.
+    Zip(u32),
+}
+
 /// The value that a display, a comprehension, a lambda or a building call makes: its node, the
-/// class of the value, and whether it is the inner one of the two that a call like `enumerate` makes.
+/// class of the value, and which inner tuple it is.
 #[derive(Clone, Copy, Debug, PartialEq, Eq, PartialOrd, Ord, Hash)]
 pub struct SiteId {
     pub node: NodeId,
     pub class: ClassId,
-    pub inner: bool,
+    pub inner: InnerTuple,
 }

@@ -4,7 +4,7 @@
 /// The names of the language in the order of their numbers, each once. The builtin classes come
 /// first, in the order of their own numbers; behind them the names stand in the order of their
 /// bytes, so that modules and names of `typing` compare by number as they do by name.
-pub static LANGUAGE_NAMES: [&str; 341] = [
+pub static LANGUAGE_NAMES: [&str; 345] = [
     "object",
     "type",
     "function",
@@ -58,6 +58,7 @@ pub static LANGUAGE_NAMES: [&str; 341] = [
     "RecursionError",
     "UnicodeError",
     "UnicodeDecodeError",
+    "ABC",
     "Annotated",
     "Any",
     "BaseExceptionGroup",
@@ -99,6 +100,7 @@ pub static LANGUAGE_NAMES: [&str; 341] = [
     "ParamSpec",
     "PendingDeprecationWarning",
     "ProcessLookupError",
+    "Protocol",
     "ReferenceError",
     "ResourceWarning",
     "RuntimeWarning",
@@ -171,6 +173,7 @@ pub static LANGUAGE_NAMES: [&str; 341] = [
     "__rsub__",
     "__rtruediv__",
     "__rxor__",
+    "__slots__",
     "__spec__",
     "__sub__",
     "__truediv__",
@@ -203,6 +206,7 @@ pub static LANGUAGE_NAMES: [&str; 341] = [
     "clear",
     "close",
     "collections",
+    "collections.abc",
     "compile",
     "conjugate",
     "copy",

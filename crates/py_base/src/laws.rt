@@ -1,6 +1,10 @@
 //! Laws of lines and places, for the proofs of the layers above. A law is a function that does
 //! nothing: its contract is the fact, and whoever calls it knows the fact from there on.
 ghost use Rattle.std.specs.Prelude.{◌≡◌, ℕ, ◌<◌, ◌≤◌, List, map, length, sum, Some};
+ghost use Rattle.std.specs.FinMap.{IsAntisymmetric};
+ghost use Rattle.py_base.specs.declared.language_names.TheConstants.{BUILTIN_NAMES};
+ghost use Rattle.py_base.specs.DiagOrder.{diag_cmp};
+ghost use Rattle.py_base.specs.LanguageNames.{builtin_names};
 ghost use Rattle.py_base.specs.declared.span.Place.{Place};
 ghost use Rattle.py_base.specs.Lines.{physical_lines, ArePhysicalLines};
 ghost use Rattle.py_base.specs.Places.{place_of, offset_of};
@@ -29,4 +33,14 @@ pub fn lines_are_the_text()
 pub fn lines_have_all()
     ensures some { (text : List ℕ) → 0 < length (map length (physical_lines text)) }
     ensures all { (text : List ℕ) → sum (map length (physical_lines text)) ≡ length text }
+{}
+
+/// Diagnostics that compare as equal are the same.
+pub fn equal_diags_are_the_same()
+    ensures { IsAntisymmetric diag_cmp }
+{}
+
+/// The constant has the names that every module sees.
+pub fn builtin_names_are_listed()
+    ensures { map (λ n. n.now) BUILTIN_NAMES ≡ builtin_names }
 {}

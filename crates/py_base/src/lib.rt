@@ -7,13 +7,13 @@
 //! Nothing stands below this crate.
 #![tactic(auto)]
 
+pub mod builtin;
 pub mod diag;
 pub mod ids;
 pub mod key;
 pub mod language_names;
 pub mod laws;
 pub mod line_map;
-pub mod line_scan;
 pub mod list;
 pub mod node;
 pub mod span;
@@ -22,8 +22,11 @@ pub mod stop;
 pub mod text;
 pub mod tree;
 
+pub use builtin::Builtin;
 pub use diag::{Diag, Rule};
-pub use ids::{ClassId, FuncId, GraphId, NameId, NodeId, PointId, RefId, SiteId, SymId};
+pub use ids::{
+    ClassId, FuncId, GraphId, InnerTuple, NameId, NodeId, PointId, RefId, SiteId, SymId,
+};
 pub use key::Key;
 pub use line_map::LineMap;
 pub use list::List;

@@ -2,9 +2,9 @@
 ghost use Rattle.std.specs.Prelude.{◌≡◌, ℕ, ◌+◌, ◌^◌, ◌<◌, ◌≤◌, List, map, length, sum, chars, IfOk, IfSome};
 ghost use Rattle.std.specs.List.Sorted.{IsNonDecreasing, IsPartitionPoint};
 ghost use Rattle.py_base.specs.Lines.{physical_lines, ends_line};
-ghost use Rattle.py_base.specs.Places.{place_of, offset_of, columns};
+ghost use Rattle.py_base.specs.Places.{place_of, offset_of, columns, at_of, IsSpanIn};
 
-use crate::span::Place;
+use crate::span::{Place, Span};
 use crate::stop::NoMemory;
 use std::alloc::Global;
 use std::marker::Model;
@@ -80,6 +80,16 @@ impl LineMap {
         }
     }
 
+    /// Where a span of the text stands: line and column of its beginning, and then of its end.
+    pub fn at(&self, span: Span) -> [u32; 4]
+        requires { IsSpanIn (sum self.now) span }
+        ensures { result ≡ at_of self.now span }
+    {
+        let from = self.place(span.from);
+        let to = self.place(span.to);
+        [from.line, from.col, to.line, to.col]
+    }
+
     /// The offset of a place. `None` exactly where the line is not there, or the column is past the
     /// last character of the line's end, in the last line past the end of the text.
     pub fn offset(&self, place: Place) -> Option<u32>
@@ -121,84 +131,12 @@ fn count_up_to(rising: &[u32], limit: u32) -> usize
 
 /// Whether a line ends behind the character `c`, before the rest of the text: behind LF, and behind
 /// a CR that no LF follows.
-pub(crate) fn is_line_end(c: char, rest: &str) -> bool
+fn is_line_end(c: char, rest: &str) -> bool
     ensures { result ≡ ends_line c (chars rest.now) }
 {
     match c {
         '\n' => true,
         '\r' => rest.chars().next() != Some('\n'),
         _ => false,
-    }
-}
-
-#[cfg(test)]
-mod tests {
-    use super::*;
-    use crate::line_scan::place_by_counting;
-    use std::process::Abort;
-
-    /// An offset of a text with its line and column, worked by hand.
-    const PLACES: [(&str, u32, u32, u32); 15] = [
-        ("", 0, 0, 0),
-        ("a\nb", 1, 0, 1),
-        ("a\nb", 2, 1, 0),
-        ("a\nb", 3, 1, 1),
-        ("a\n", 2, 1, 0),
-        ("a\r\nb", 1, 0, 1),
-        ("a\r\nb", 2, 0, 2),
-        ("a\r\nb", 3, 1, 0),
-        ("a\rb", 2, 1, 0),
-        ("\r\r\n", 1, 1, 0),
-        ("\r\r\n", 3, 2, 0),
-        ("\n\r", 1, 1, 0),
-        ("\n\r", 2, 2, 0),
-        ("é\u{1F40D}\nx", 2, 0, 2),
-        ("é\u{1F40D}\nx", 4, 1, 1),
-    ];
-
-    /// A line and a column that a text does not have.
-    const OUTSIDE: [(&str, u32, u32); 8] = [
-        ("", 0, 1),
-        ("", 1, 0),
-        ("a\nb", 0, 2),
-        ("a\nb", 1, 2),
-        ("a\nb", 2, 0),
-        ("a\r\nb", 0, 3),
-        ("a\n", 1, 1),
-        ("é\nx", 0, 3),
-    ];
-
-    fn check_place(
-        rt: &impl Abort,
-        alloc: Global,
-        text: &str,
-        offset: u32,
-        place: Place,
-    ) -> Result<(), NoMemory> {
-        assert!(rt; text.len() <= LineMap::MAX_BYTES);
-        let map = LineMap::new(alloc, text)?;
-        assert!(rt; offset <= map.char_count());
-        assert_eq!(rt; map.place(offset), place, "in {text:?}");
-        assert_eq!(rt; place_by_counting(text, offset), place, "in {text:?}");
-        assert_eq!(rt; map.offset(place), Some(offset), "in {text:?}");
-        Ok(())
-    }
-
-    #[test]
-    fn places_and_offsets(rt: HostRuntime) -> Result<(), NoMemory> {
-        for (text, offset, line, col) in PLACES {
-            check_place(&rt, rt.alloc(), text, offset, Place { line, col })?;
-        }
-        Ok(())
-    }
-
-    #[test]
-    fn places_outside(rt: HostRuntime) -> Result<(), NoMemory> {
-        for (text, line, col) in OUTSIDE {
-            assert!(rt; text.len() <= LineMap::MAX_BYTES);
-            let map = LineMap::new(rt.alloc(), text)?;
-            assert_eq!(rt; map.offset(Place { line, col }), None, "in {text:?}");
-        }
-        Ok(())
     }
 }

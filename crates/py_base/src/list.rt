@@ -119,26 +119,3 @@ impl<T: Copy> List<T> {
         Ok(List { items })
     }
 }
-
-#[cfg(test)]
-mod tests {
-    use super::*;
-    use std::test::Fail;
-
-    #[test]
-    fn lists(rt: HostRuntime) -> Result<(), Fail> {
-        let mut list = List::new(rt.alloc());
-        assert!(rt; list.is_empty());
-        list.push(3u8)?;
-        list.push(5)?;
-        assert_eq!(rt; list.len(), 2);
-        list.set(0, 4);
-        let copy = list.copy(rt.alloc())?;
-        assert_eq!(rt; list.pop(), Some(5));
-        assert_eq!(rt; list.as_slice(), [4].as_slice());
-        assert_eq!(rt; copy.get(1).copied(), Some(5));
-        assert_eq!(rt; copy.get(2).copied(), None);
-        assert_eq!(rt; List::from_vec(copy.into_vec()).len(), 2);
-        Ok(())
-    }
-}

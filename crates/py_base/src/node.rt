@@ -58,6 +58,8 @@ pub enum NodeKind {
     Await,
     /// A part, `.` and the name that is the word.
     Attribute,
+    /// The dotted name of an import: its `Name`s in the order of the text, two or more.
+    DottedName,
     /// The callee and then its arguments.
     Call,
     /// `name = value` as an argument.

@@ -43,30 +43,3 @@ impl<L: Ledger> Steps<L> {
         self.book.add(&mut self.share, 1);
     }
 }
-
-#[cfg(test)]
-mod tests {
-    use super::*;
-    use std::marker::Brand;
-
-    fn tick_twice<L: Ledger>(steps: &mut Steps<L>)
-        ensures { steps.new ≡ steps.old + 2 }
-    {
-        steps.tick();
-        steps.tick();
-    }
-
-    fn count_two<L: Ledger>(blank: Blank)
-        requires name { blank.name ≡ L.name }
-        requires parts { blank.parts ≡ L.parts }
-        requires some { 0 < blank.parts }
-    {
-        let mut steps = Steps::<L>::new(blank);
-        tick_twice(&mut steps);
-    }
-
-    #[test]
-    fn counts_in_a_ledger_of_its_own() {
-        count_two::<Brand>(Blank::new(1));
-    }
-}

@@ -112,24 +112,3 @@ impl fmt::Display for Text {
         f.pad(self.as_str())
     }
 }
-
-#[cfg(test)]
-mod tests {
-    use super::*;
-    use std::test::Fail;
-
-    #[test]
-    fn texts(rt: HostRuntime) -> Result<(), Fail> {
-        let alloc = rt.alloc();
-        assert!(rt; Text::new(alloc).is_empty());
-        let text = Text::from_str(alloc, "tür")?;
-        assert_eq!(rt; text.len(), 4);
-        assert!(rt; text.is("tür"));
-        assert!(rt; !text.is("tur"));
-        let copy = text.copy(alloc)?;
-        assert_eq!(rt; copy, text);
-        assert_eq!(rt; format!(in alloc; "{text:>5}")?.as_str(), "  tür");
-        assert_eq!(rt; Text::from_string(text.into_string()), copy);
-        Ok(())
-    }
-}

@@ -1,16 +1,14 @@
 //! The arena in which a text's tree stands.
-ghost use Rattle.std.specs.Prelude.{◌≡◌, []};
-ghost use Rattle.py_base.specs.declared.node.Word.TheVariants as words;
-
 use crate::ids::{NameId, NodeId};
 use crate::language_names::LANGUAGE_NAMES;
-use crate::node::Node;
+use crate::node::{Node, NodeKind, Word};
+use crate::span::Span;
 use crate::stop::NoMemory;
 use indexmap::IndexSet;
 use std::alloc::Global;
 use std::marker::Model;
 
-/// How many nodes a tree can have, and how many names: there are fewer than this.
+/// The nodes of a tree are fewer than this, and so are its names.
 pub const TREE_ROOM: usize = 33_554_432;
 
 /// The nodes of a tree by their numbers, and its names by theirs. The parts of a node are older
@@ -24,31 +22,38 @@ pub struct Tree {
     alloc: Global,
     names: IndexSet<String>,
     nodes: Vec<Node>,
+    // Always `Nothing`: what is lent as the word of a number that is no node's.
+    nothing: Word,
 }
 
 impl Model for Tree {
-    ghost use Rattle.std.specs.Prelude.{◌<◌, map, length, string_bytes};
+    ghost use Rattle.std.specs.Prelude.{◌≡◌, ◌<◌, map, length, string_bytes};
+    ghost use Rattle.py_base.specs.declared.node.Word.TheVariants as words;
     ghost use Rattle.py_base.specs.Tree.{Arena, IsLinked};
 
     ghost Value = { Arena };
 
     ghost view = { λ t. record { names = map string_bytes t.names.keys; nodes = t.nodes.items } };
 
-    ghost invariant = { λ t. IsLinked (record { names = map string_bytes t.names.keys; nodes = t.nodes.items }) × (length t.names.keys < 33554432) × (length t.nodes.items < 33554432) };
+    ghost invariant = { λ t. IsLinked (record { names = map string_bytes t.names.keys; nodes = t.nodes.items }) × (length t.names.keys < 33554432) × (length t.nodes.items < 33554432) × (t.nothing ≡ words.Nothing) };
 }
 
 impl Tree {
-    ghost use Rattle.std.specs.Prelude.{◌≡◌, [], ◌∷◌, ◌++◌, ◌<◌, ◌≤◌, ◌-◌, suc, map, length, take, slice_get, IfOk, OnOk, OnErr};
+    ghost use Rattle.std.specs.Prelude.{◌≡◌, [], ◌∷◌, ◌++◌, ◌+◌, ◌<◌, ◌≤◌, ◌-◌, suc, map, length, take, slice_get, IfOk, OnOk, OnErr};
+    ghost use Rattle.std.specs.Option.{option_copied};
+    ghost use Rattle.py_base.specs.LanguageNames.{language_names};
+    ghost use Rattle.py_base.specs.Nodes.{kind_at, span_at, parts_at, word_at, name_word, name_of};
     ghost use Rattle.py_base.specs.Tree.{Arena, AreOlder, IsNamed, IsLinked, with_name, with_names, number_of_name};
 
     /// A tree without nodes, with the names of the language.
     pub fn new(alloc: Global) -> Result<Tree, NoMemory>
-        ensures { IfOk result (λ t. t ≡ record { names = map (λ n. n.now) LANGUAGE_NAMES; nodes = [] }) }
+        ensures { IfOk result (λ t. t ≡ record { names = language_names; nodes = [] }) }
     {
         let mut tree = Tree {
             alloc,
             names: IndexSet::new(alloc),
             nodes: Vec::new(alloc),
+            nothing: Word::Nothing,
         };
         tree.intern_all(&LANGUAGE_NAMES)?;
         Ok(tree)
@@ -56,6 +61,7 @@ impl Tree {
 
     // Interns each of the names in turn.
     fn intern_all(&mut self, names: &[&str]) -> Result<(), NoMemory>
+        requires room { length self.old.names + length names.now < 33554432 }
         ensures { OnOk result (self.new ≡ record self.old { names = with_names self.old.names (map (λ n. n.now) names.now) }) }
     {
         for name in names {
@@ -64,9 +70,10 @@ impl Tree {
         Ok(())
     }
 
-    /// Adds the newest node. `NoMemory` where it could not be stored, and where the tree has as
-    /// many nodes as it can number; then the tree is as before.
+    /// Adds the newest node. `NoMemory` where it could not be stored; then the tree is as before.
     pub fn add(&mut self, node: Node) -> Result<NodeId, NoMemory>
+        // With it the nodes are fewer than `TREE_ROOM`.
+        requires room { length self.old.nodes + 1 < 33554432 }
         // Its parts and its name are of this tree.
         requires parts { AreOlder (length self.old.nodes) node.parts }
         requires name { IsNamed (length self.old.names) node.word }
@@ -75,9 +82,6 @@ impl Tree {
         ensures err { OnErr result (self.new ≡ self.old) }
     {
         let at = self.nodes.len();
-        if at >= TREE_ROOM - 1 {
-            return Err(NoMemory);
-        }
         let Ok(()) = self.nodes.push(node) else {
             return Err(NoMemory);
         };
@@ -85,9 +89,10 @@ impl Tree {
     }
 
     /// The number of a name. A name that the tree lacks becomes its newest one. `NoMemory` where
-    /// it could not be stored, and where the tree has as many names as it can number; then the
-    /// tree is as before.
+    /// it could not be stored; then the tree is as before.
     pub fn intern(&mut self, name: &str) -> Result<NameId, NoMemory>
+        // With one more the names are fewer than `TREE_ROOM`.
+        requires room { length self.old.names + 1 < 33554432 }
         ensures id { IfOk result (λ id. id.0 ≡ number_of_name self.old.names name.now) }
         ensures stored { IfOk result (λ id. slice_get self.new.names id.0 ≡ Some name.now) }
         ensures ok { OnOk result (self.new ≡ record self.old { names = with_name self.old.names name.now }) }
@@ -97,9 +102,6 @@ impl Tree {
             return Ok(NameId(at as u32));
         }
         let at = self.names.len();
-        if at >= TREE_ROOM - 1 {
-            return Err(NoMemory);
-        }
         let Ok(owned) = String::from_str(self.alloc, name) else {
             return Err(NoMemory);
         };
@@ -116,6 +118,63 @@ impl Tree {
         ensures older { AreOlder id.0 result.now.parts }
     {
         &self.nodes[id.0 as usize]
+    }
+
+    /// The node of this number; `None` exactly where the tree has none.
+    pub fn get(&self, id: NodeId) -> Option<&Node>
+        ensures { option_copied result ≡ slice_get self.now.nodes id.0 }
+    {
+        self.nodes.get(id.0 as usize)
+    }
+
+    /// The kind of a node, `Fault` for a number that is no node's.
+    pub fn kind(&self, id: NodeId) -> NodeKind
+        ensures { result ≡ kind_at self.now.nodes id }
+    {
+        match self.get(id) {
+            Some(node) => node.kind,
+            None => NodeKind::Fault,
+        }
+    }
+
+    /// Where a node stands, an empty span at the front for a number that is no node's.
+    pub fn span(&self, id: NodeId) -> Span
+        ensures { result ≡ span_at self.now.nodes id }
+    {
+        match self.get(id) {
+            Some(node) => node.span,
+            None => Span { from: 0, to: 0 },
+        }
+    }
+
+    /// The parts of a node in the order of the text, none for a number that is no node's.
+    pub fn parts(&self, id: NodeId) -> &[NodeId]
+        ensures { result.now ≡ parts_at self.now.nodes id }
+    {
+        match self.get(id) {
+            Some(node) => node.parts.as_slice(),
+            None => &[],
+        }
+    }
+
+    /// What a node says beside its kind and its parts, `Nothing` for a number that is no node's.
+    pub fn word(&self, id: NodeId) -> &Word
+        ensures { result.now ≡ word_at self.now.nodes id }
+    {
+        match self.get(id) {
+            Some(node) => &node.word,
+            None => &self.nothing,
+        }
+    }
+
+    /// The name that the word of a node is; `None` exactly where it is no name.
+    pub fn name_of(&self, id: NodeId) -> Option<NameId>
+        ensures { result ≡ name_of self.now.nodes id }
+    {
+        match self.word(id) {
+            Word::Name(name) => Some(*name),
+            _ => None,
+        }
     }
 
     /// The newest node.
@@ -162,51 +221,5 @@ impl Tree {
     {
         self.nodes.truncate(nodes);
         self.names.truncate(names);
-    }
-}
-
-#[cfg(test)]
-mod tests {
-    use super::*;
-    use crate::list::List;
-    use crate::node::{NodeKind, Word};
-    use crate::span::Span;
-    use std::test::Fail;
-
-    fn leaf(alloc: Global, kind: NodeKind) -> Node
-        ensures parts { result.parts ≡ [] }
-        ensures word { result.word ≡ words.Nothing }
-    {
-        Node {
-            kind,
-            span: Span { from: 0, to: 1 },
-            parts: List::new(alloc),
-            word: Word::Nothing,
-        }
-    }
-
-    #[test]
-    fn names(rt: HostRuntime) -> Result<(), Fail> {
-        let mut tree = Tree::new(rt.alloc())?;
-        let of_language = tree.name_count();
-        assert_eq!(rt; of_language, LANGUAGE_NAMES.len());
-        assert_eq!(rt; tree.intern("object")?, NameId(0));
-        let spam = tree.intern("spam")?;
-        assert_eq!(rt; tree.intern("eggs")?, NameId(spam.0 + 1));
-        assert_eq!(rt; tree.intern("spam")?, spam);
-        assert_eq!(rt; spam.0 as usize, of_language);
-        assert_eq!(rt; tree.name(spam), "spam");
-        Ok(())
-    }
-
-    #[test]
-    fn nodes(rt: HostRuntime) -> Result<(), Fail> {
-        let mut tree = Tree::new(rt.alloc())?;
-        let first = tree.add(leaf(rt.alloc(), NodeKind::NoneValue))?;
-        let second = tree.add(leaf(rt.alloc(), NodeKind::Ellipsis))?;
-        assert_eq!(rt; tree.root(), second);
-        assert_eq!(rt; tree.node(first).kind, NodeKind::NoneValue);
-        assert_eq!(rt; tree.node(second).kind, NodeKind::Ellipsis);
-        Ok(())
     }
 }

@@ -12,6 +12,7 @@ use crate::order::{
     Binding, binding_of, does_enclose, does_fit, is_binary, is_case, is_field, is_lambda,
     is_name_like, is_of_targets, is_starred, is_strings, is_unary,
 };
+use crate::room::add;
 use crate::table::plain_of;
 use crate::terminal::terminal_for;
 use crate::word::{is_part_first, kind_of, leaf_word, mark_of, span_over, word_for};
@@ -199,12 +200,15 @@ fn add_node(
     let signed = is_signed_over(kind, parts);
     let unreal = is_unreal_over(kind, parts);
     let ids = ids_of(alloc, parts)?;
-    let id = tree.add(Node {
-        kind,
-        span,
-        parts: ids,
-        word,
-    })?;
+    let id = add(
+        tree,
+        Node {
+            kind,
+            span,
+            parts: ids,
+            word,
+        },
+    )?;
     Ok(Found {
         id,
         form,

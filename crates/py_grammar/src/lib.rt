@@ -16,6 +16,7 @@ pub mod found;
 mod laws;
 pub mod order;
 mod reader;
+mod room;
 mod step;
 mod strings;
 pub mod table;

@@ -8,6 +8,7 @@ ghost use Rattle.py_grammar.specs.Added.{AddsAtMost, one_if};
 ghost use Rattle.py_grammar.specs.declared.words.Terminal.TheVariants as terminals;
 
 use crate::found::Item;
+use crate::room::intern;
 use crate::strings::{bytes_word, text_word};
 use crate::table::{number_of, plain_of};
 use crate::terminal::terminal_for;
@@ -443,7 +444,7 @@ fn name_word(tree: &mut Tree, items: &[Item]) -> Result<Word, NoMemory>
     match find_word(items, Terminal::Name) {
         None => Ok(Word::Nothing),
         Some(token) => {
-            let id = tree.intern(token.text.as_str())?;
+            let id = intern(tree, token.text.as_str())?;
             Ok(Word::Name(id))
         }
     }
@@ -584,7 +585,7 @@ pub fn leaf_word(tree: &mut Tree, kind: NodeKind, token: &Token) -> Result<Word,
     ensures grows { OnOk result (AddsAtMost 0 (one_if (is_name kind)) tree.old tree.new) }
 {
     if is_name(kind) {
-        let id = tree.intern(token.text.as_str())?;
+        let id = intern(tree, token.text.as_str())?;
         Ok(Word::Name(id))
     } else {
         Ok(Word::Nothing)

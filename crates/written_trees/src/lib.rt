@@ -23,6 +23,7 @@ mod fault;
 mod kinds;
 mod operators;
 #[cfg(test)]
+mod room;
 mod tests;
 mod tree;
 mod words;

@@ -3,6 +3,7 @@ ghost use Rattle.std.specs.Prelude.{◌≡◌, ◌≤◌, drop, length, IfOk, On
 ghost use Rattle.py_base.specs.Tree.{AreOlder, IsNamed};
 
 use crate::fault::RowFault;
+use crate::room::{add, intern};
 use crate::words::{Step, step_of};
 use py_base::{List, NoMemory, Node, NodeId, NodeKind, Span, Text, Tree, Word};
 use std::alloc::Global;
@@ -48,7 +49,7 @@ fn word_of(alloc: Global, tree: &mut Tree, step: Step) -> Result<Word, NoMemory>
 {
     match step {
         Step::Leaf(_) | Step::Over(_, _) => Ok(Word::Nothing),
-        Step::Attribute(name) | Step::Name(name) => Ok(Word::Name(tree.intern(name)?)),
+        Step::Attribute(name) | Step::Name(name) => Ok(Word::Name(intern(tree, name)?)),
         Step::Operator(_, op, _) => Ok(Word::Op(op)),
         Step::Strings(value) => Ok(Word::Chars(Text::from_str(alloc, value)?)),
     }
@@ -70,12 +71,15 @@ fn add_node(
 {
     let first = roots.len() - count;
     let parts = copied_from(alloc, roots.as_slice(), first)?;
-    let id = tree.add(Node {
-        kind,
-        span: Span { from: 0, to: 0 },
-        parts,
-        word,
-    })?;
+    let id = add(
+        tree,
+        Node {
+            kind,
+            span: Span { from: 0, to: 0 },
+            parts,
+            word,
+        },
+    )?;
     roots.truncate(first);
     roots.push(id)?;
     Ok(())

@@ -8,7 +8,7 @@ pub returns-in_ok-id-clause-older : goal.returns-in_ok-id-clause-older
 returns-in_ok-id-clause-older c = Extends-name _ _ _ c.requires c.in_ok-id.ensures.ok
 
 pub returns-in_ok-id-clause-said : goal.returns-in_ok-id-clause-said
-returns-in_ok-id-clause-said c = leaf_said c.intern.new.self _ c.in_ok-id.id c.args.kind c.args.token.now c.if-is_name.ensures c.as_str.ensures c.in_ok-id.ensures.stored
+returns-in_ok-id-clause-said c = leaf_said c.intern.new.tree _ c.in_ok-id.id c.args.kind c.args.token.now c.if-is_name.ensures c.as_str.ensures c.in_ok-id.ensures.stored
 
 pub returns-else-is_name-clause-older : goal.returns-else-is_name-clause-older
 returns-else-is_name-clause-older c = Extends-refl _ c.requires

@@ -11,4 +11,4 @@ pub returns-in_ok-id-in-Some-clause-older : goal.returns-in_ok-id-in-Some-clause
 returns-in_ok-id-in-Some-clause-older c = Extends-name _ _ _ c.requires c.in_ok-id-in-Some.ensures.ok
 
 pub returns-in_ok-id-in-Some-clause-said : goal.returns-in_ok-id-in-Some-clause-said
-returns-in_ok-id-in-Some-clause-said c = name_said c.intern.new.self _ _ _ c.in-Some.token.now c.in-Some.ensures c.as_str.ensures c.in_ok-id-in-Some.ensures.stored
+returns-in_ok-id-in-Some-clause-said c = name_said c.intern.new.tree _ _ _ c.in-Some.token.now c.in-Some.ensures c.as_str.ensures c.in_ok-id-in-Some.ensures.stored

@@ -18,7 +18,8 @@ pub invariant_of-self-2 : goal.invariant_of-self-2
 invariant_of-self-2 c =
     let new = name_new c.self.inside.names.keys c.insert.new.self.keys c.args.name.now c.in-Ok.owned (sym c.in_default.ensures.found) c.in-Ok.ensures.ok c.in-Ok-insert.ensures.keys in
     let more : length (map string_bytes c.self.inside.names.keys) ≤ length (map string_bytes c.insert.new.self.keys) = omega (arith, new.3, length-map c.self.inside.names.keys string_bytes, length-map c.insert.new.self.keys string_bytes) in
-    (AreLinked-later _ _ 0 c.self.inside.nodes.items more c.self.invariant.0, omega (arith, new.3, c.if-at.false, c.len-at.ensures.len), c.self.invariant.2)
+    let room = rw (← c.self.view_is) at c.requires in
+    (AreLinked-later _ _ 0 c.self.inside.nodes.items more c.self.invariant.0, omega (arith, new.3, room, length-map c.self.inside.names.keys string_bytes), c.self.invariant.2, c.self.invariant.3)
 
 pub returns-clause-id : goal.returns-clause-id
 returns-clause-id c =
