@@ -93,9 +93,31 @@ mark needs.WithEntry = Some 2
 mark needs.Subject = Some 0
 mark _ = None
 
+-- the forms of a name
+abbrev pub names : List Form
+names = forms.Name ∷ forms.TypeName ∷ forms.Underscore ∷ []
+
+-- the simple statements that are no expressions
+abbrev pub simple_statements : List Form
+simple_statements =
+    forms.Yield ∷ forms.Assign ∷ forms.AnnotatedAssign ∷ forms.AugmentedAssign ∷ forms.Pass ∷ forms.Break ∷ forms.Continue ∷ forms.Return
+    ∷ forms.Raise ∷ forms.Global ∷ forms.Nonlocal ∷ forms.Del ∷ forms.Assert ∷ forms.Import ∷ forms.ImportFrom ∷ forms.TypeAlias ∷ []
+
+-- the patterns that are keys of a mapping
+abbrev pub pattern_keys : List Form
+pattern_keys =
+    forms.Int ∷ forms.Float ∷ forms.Imaginary ∷ forms.Strings ∷ forms.BytesStrings ∷ forms.NoneValue ∷ forms.TrueValue ∷ forms.FalseValue
+    ∷ forms.SignedNumber ∷ forms.ComplexNumber ∷ forms.DottedName ∷ []
+
+-- the patterns without `|` and `as`
+abbrev pub closed_patterns : List Form
+closed_patterns =
+    forms.PatternRound ∷ forms.PatternSquare ∷ forms.MappingPattern ∷ forms.ClassPattern ∷ forms.Name ∷ forms.TypeName ∷ forms.Underscore
+    ∷ pattern_keys
+
 -- the forms that a place takes whatever their level
 abbrev pub besides : Need → List Form
-besides needs.Identifier = forms.Name ∷ forms.TypeName ∷ forms.Underscore ∷ []
+besides needs.Identifier = names
 besides needs.Entry = forms.Starred ∷ []
 besides needs.StarredEntry = forms.Starred ∷ []
 besides needs.StarOperand = forms.Starred ∷ []
@@ -111,28 +133,28 @@ besides needs.Target = forms.Starred ∷ []
 besides needs.TargetList = forms.Starred ∷ forms.Targets ∷ []
 besides needs.Clause = forms.ComprehensionFor ∷ forms.AsyncComprehensionFor ∷ []
 besides needs.FurtherClause = forms.ComprehensionFor ∷ forms.AsyncComprehensionFor ∷ forms.ComprehensionIf ∷ []
-besides needs.Parameter = forms.Name ∷ forms.TypeName ∷ forms.Underscore ∷ forms.Parameter ∷ forms.SlashParameter ∷ forms.StarParameter ∷ forms.DoubleStarParameter ∷ []
+besides needs.Parameter = forms.Parameter ∷ forms.SlashParameter ∷ forms.StarParameter ∷ forms.DoubleStarParameter ∷ names
 besides needs.Link = forms.Link ∷ []
 besides needs.YieldValue = forms.Yield ∷ []
 besides needs.Field = forms.Field ∷ []
 besides needs.Format = forms.Format ∷ []
-besides needs.Line = forms.Yield ∷ forms.Assign ∷ forms.AnnotatedAssign ∷ forms.AugmentedAssign ∷ forms.Pass ∷ forms.Break ∷ forms.Continue ∷ forms.Return ∷ forms.Raise ∷ forms.Global ∷ forms.Nonlocal ∷ forms.Del ∷ forms.Assert ∷ forms.Import ∷ forms.ImportFrom ∷ forms.TypeAlias ∷ forms.Statements ∷ forms.If ∷ forms.Elif ∷ forms.Else ∷ forms.While ∷ forms.For ∷ forms.Try ∷ forms.Except ∷ forms.Finally ∷ forms.With ∷ forms.Def ∷ forms.Class ∷ forms.Async ∷ forms.Decorator ∷ []
+besides needs.Line = forms.Statements ∷ forms.If ∷ forms.Elif ∷ forms.Else ∷ forms.While ∷ forms.For ∷ forms.Try ∷ forms.Except ∷ forms.Finally ∷ forms.With ∷ forms.Def ∷ forms.Class ∷ forms.Async ∷ forms.Decorator ∷ simple_statements
 besides needs.KeywordLine = forms.Match ∷ forms.Case ∷ forms.BracketedWith ∷ forms.BracketedAsync ∷ []
-besides needs.SimpleStatement = forms.Yield ∷ forms.Assign ∷ forms.AnnotatedAssign ∷ forms.AugmentedAssign ∷ forms.Pass ∷ forms.Break ∷ forms.Continue ∷ forms.Return ∷ forms.Raise ∷ forms.Global ∷ forms.Nonlocal ∷ forms.Del ∷ forms.Assert ∷ forms.Import ∷ forms.ImportFrom ∷ forms.TypeAlias ∷ []
+besides needs.SimpleStatement = simple_statements
 besides needs.AssignedPart = forms.Starred ∷ forms.Yield ∷ []
 besides needs.AssignedValue = forms.Yield ∷ []
-besides needs.Reference = forms.Name ∷ forms.TypeName ∷ forms.Underscore ∷ forms.Attribute ∷ forms.Subscript ∷ []
-besides needs.DottedName = forms.Name ∷ forms.TypeName ∷ forms.Underscore ∷ forms.DottedName ∷ []
-besides needs.Source = forms.Name ∷ forms.TypeName ∷ forms.Underscore ∷ forms.DottedName ∷ forms.RelativeSource ∷ []
-besides needs.ImportItem = forms.Name ∷ forms.TypeName ∷ forms.Underscore ∷ forms.DottedName ∷ forms.Alias ∷ []
-besides needs.FromItem = forms.Name ∷ forms.TypeName ∷ forms.Underscore ∷ forms.FromAlias ∷ []
+besides needs.Reference = forms.Attribute ∷ forms.Subscript ∷ names
+besides needs.DottedName = forms.DottedName ∷ names
+besides needs.Source = forms.DottedName ∷ forms.RelativeSource ∷ names
+besides needs.ImportItem = forms.DottedName ∷ forms.Alias ∷ names
+besides needs.FromItem = forms.FromAlias ∷ names
 besides needs.TypeKeyword = forms.TypeName ∷ []
 besides needs.TypeParameters = forms.TypeParameters ∷ []
-besides needs.TypeParameter = forms.Name ∷ forms.TypeName ∷ forms.Underscore ∷ forms.TypeParameter ∷ forms.StarTypeParameter ∷ forms.DoubleStarTypeParameter ∷ []
+besides needs.TypeParameter = forms.TypeParameter ∷ forms.StarTypeParameter ∷ forms.DoubleStarTypeParameter ∷ names
 besides needs.Suite = forms.Suite ∷ []
 besides needs.WithEntry = forms.WithItem ∷ []
 besides needs.Parameters = forms.Parameters ∷ []
-besides needs.DefParameter = forms.Name ∷ forms.TypeName ∷ forms.Underscore ∷ forms.Parameter ∷ forms.AnnotatedParameter ∷ forms.SlashParameter ∷ forms.DefStarParameter ∷ forms.DefDoubleStarParameter ∷ []
+besides needs.DefParameter = forms.Parameter ∷ forms.AnnotatedParameter ∷ forms.SlashParameter ∷ forms.DefStarParameter ∷ forms.DefDoubleStarParameter ∷ names
 besides needs.Result = forms.Result ∷ []
 besides needs.Arguments = forms.Arguments ∷ []
 besides needs.AsyncHeader = forms.For ∷ forms.With ∷ forms.Def ∷ []
@@ -141,17 +163,17 @@ besides needs.Subject = forms.Named ∷ []
 besides needs.Number = forms.Int ∷ forms.Float ∷ forms.Imaginary ∷ []
 besides needs.RealNumber = forms.Int ∷ forms.Float ∷ forms.SignedNumber ∷ []
 besides needs.ImaginaryNumber = forms.Imaginary ∷ []
-besides needs.ClosedPattern = forms.Name ∷ forms.TypeName ∷ forms.Underscore ∷ forms.Int ∷ forms.Float ∷ forms.Imaginary ∷ forms.Strings ∷ forms.BytesStrings ∷ forms.NoneValue ∷ forms.TrueValue ∷ forms.FalseValue ∷ forms.SignedNumber ∷ forms.ComplexNumber ∷ forms.DottedName ∷ forms.PatternRound ∷ forms.PatternSquare ∷ forms.MappingPattern ∷ forms.ClassPattern ∷ []
-besides needs.Alternatives = forms.Name ∷ forms.TypeName ∷ forms.Underscore ∷ forms.Int ∷ forms.Float ∷ forms.Imaginary ∷ forms.Strings ∷ forms.BytesStrings ∷ forms.NoneValue ∷ forms.TrueValue ∷ forms.FalseValue ∷ forms.SignedNumber ∷ forms.ComplexNumber ∷ forms.DottedName ∷ forms.PatternRound ∷ forms.PatternSquare ∷ forms.MappingPattern ∷ forms.ClassPattern ∷ forms.OrPattern ∷ []
-besides needs.Pattern = forms.Name ∷ forms.TypeName ∷ forms.Underscore ∷ forms.Int ∷ forms.Float ∷ forms.Imaginary ∷ forms.Strings ∷ forms.BytesStrings ∷ forms.NoneValue ∷ forms.TrueValue ∷ forms.FalseValue ∷ forms.SignedNumber ∷ forms.ComplexNumber ∷ forms.DottedName ∷ forms.PatternRound ∷ forms.PatternSquare ∷ forms.MappingPattern ∷ forms.ClassPattern ∷ forms.OrPattern ∷ forms.AsPattern ∷ []
-besides needs.PatternEntry = forms.Name ∷ forms.TypeName ∷ forms.Underscore ∷ forms.Int ∷ forms.Float ∷ forms.Imaginary ∷ forms.Strings ∷ forms.BytesStrings ∷ forms.NoneValue ∷ forms.TrueValue ∷ forms.FalseValue ∷ forms.SignedNumber ∷ forms.ComplexNumber ∷ forms.DottedName ∷ forms.PatternRound ∷ forms.PatternSquare ∷ forms.MappingPattern ∷ forms.ClassPattern ∷ forms.OrPattern ∷ forms.AsPattern ∷ forms.StarPattern ∷ []
+besides needs.ClosedPattern = closed_patterns
+besides needs.Alternatives = forms.OrPattern ∷ closed_patterns
+besides needs.Pattern = forms.OrPattern ∷ forms.AsPattern ∷ closed_patterns
+besides needs.PatternEntry = forms.OrPattern ∷ forms.AsPattern ∷ forms.StarPattern ∷ closed_patterns
 besides needs.StarPattern = forms.StarPattern ∷ []
-besides needs.CasePattern = forms.Name ∷ forms.TypeName ∷ forms.Underscore ∷ forms.Int ∷ forms.Float ∷ forms.Imaginary ∷ forms.Strings ∷ forms.BytesStrings ∷ forms.NoneValue ∷ forms.TrueValue ∷ forms.FalseValue ∷ forms.SignedNumber ∷ forms.ComplexNumber ∷ forms.DottedName ∷ forms.PatternRound ∷ forms.PatternSquare ∷ forms.MappingPattern ∷ forms.ClassPattern ∷ forms.OrPattern ∷ forms.AsPattern ∷ forms.Patterns ∷ []
+besides needs.CasePattern = forms.OrPattern ∷ forms.AsPattern ∷ forms.Patterns ∷ closed_patterns
 besides needs.CapturedName = forms.Name ∷ forms.TypeName ∷ []
-besides needs.PatternKey = forms.Int ∷ forms.Float ∷ forms.Imaginary ∷ forms.Strings ∷ forms.BytesStrings ∷ forms.NoneValue ∷ forms.TrueValue ∷ forms.FalseValue ∷ forms.SignedNumber ∷ forms.ComplexNumber ∷ forms.DottedName ∷ []
+besides needs.PatternKey = pattern_keys
 besides needs.DoubleStarPattern = forms.DoubleStarPattern ∷ []
 besides needs.PatternItem = forms.PatternItem ∷ []
-besides needs.ClassEntry = forms.Name ∷ forms.TypeName ∷ forms.Underscore ∷ forms.Int ∷ forms.Float ∷ forms.Imaginary ∷ forms.Strings ∷ forms.BytesStrings ∷ forms.NoneValue ∷ forms.TrueValue ∷ forms.FalseValue ∷ forms.SignedNumber ∷ forms.ComplexNumber ∷ forms.DottedName ∷ forms.PatternRound ∷ forms.PatternSquare ∷ forms.MappingPattern ∷ forms.ClassPattern ∷ forms.OrPattern ∷ forms.AsPattern ∷ forms.KeywordPattern ∷ []
+besides needs.ClassEntry = forms.OrPattern ∷ forms.AsPattern ∷ forms.KeywordPattern ∷ closed_patterns
 besides _ = []
 
 -- the forms at the left edge of what a place takes, on the way to a form that it takes
@@ -163,8 +185,8 @@ beneath needs.AssignedValue = forms.Starred ∷ []
 beneath needs.Reference = forms.Call ∷ forms.Int ∷ forms.Float ∷ forms.Imaginary ∷ forms.Strings ∷ forms.BytesStrings ∷ forms.NoneValue ∷ forms.TrueValue ∷ forms.FalseValue ∷ forms.Ellipsis ∷ forms.Round ∷ forms.Square ∷ forms.Curly ∷ []
 beneath needs.Subject = forms.Starred ∷ []
 beneath needs.CasePattern = forms.StarPattern ∷ []
-beneath needs.PatternKey = forms.Name ∷ forms.TypeName ∷ forms.Underscore ∷ []
-beneath needs.PatternItem = forms.Name ∷ forms.TypeName ∷ forms.Underscore ∷ forms.Int ∷ forms.Float ∷ forms.Imaginary ∷ forms.Strings ∷ forms.BytesStrings ∷ forms.NoneValue ∷ forms.TrueValue ∷ forms.FalseValue ∷ forms.SignedNumber ∷ forms.ComplexNumber ∷ forms.DottedName ∷ []
+beneath needs.PatternKey = names
+beneath needs.PatternItem = forms.Name ∷ forms.TypeName ∷ forms.Underscore ∷ pattern_keys
 beneath _ = []
 
 abbrev pub form_number : Form → ℕ
