@@ -1,4 +1,5 @@
 pub mod Operators
+pub mod Openings
 pub mod Fronts
 pub mod Runs
 pub mod RowLaws

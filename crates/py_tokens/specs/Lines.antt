@@ -12,7 +12,7 @@ use Rattle.py_tokens.specs.declared.kinds.Gap.TheVariants.{LineEnd}
 use Rattle.py_tokens.specs.declared.kinds.TokenKind.{TokenKind}
 use Rattle.py_tokens.specs.declared.kinds.TokenKind.TheVariants.{Int}
 use Rattle.py_tokens.specs.declared.kinds.TokenFault.{TokenFault}
-use Rattle.py_tokens.specs.declared.kinds.TokenFault.TheVariants.{BadCharacter, WideLiteral}
+use Rattle.py_tokens.specs.declared.kinds.TokenFault.TheVariants.{WideLiteral}
 use Rattle.py_tokens.specs.declared.kinds.Piece.{Piece}
 use Rattle.py_tokens.specs.declared.lines.Placed.{Placed}
 use Rattle.py_tokens.specs.declared.lines.Token.{Token}
@@ -113,18 +113,9 @@ line_of text g = line_from text g (find (λ x. not (is_gap x.kind)) g.pieces)
 
 -- ---- the lines in their blocks
 
--- the line begins with a character at which no token begins
-abbrev pub begins_badly : List Token → Option TokenFault → Bool
-begins_badly [] (Some BadCharacter) = true
-begins_badly tokens fault = false
-
--- the fault of a line in its block stands where the line's first token or fault begins, so it comes first, also before
--- a string that is not closed, which is missed only where the line ends; but not before a bad character at that place
-abbrev pub own_first : List Token → Option TokenFault → Option TokenFault → Option TokenFault
-own_first tokens own block = if begins_badly tokens own then own else or_else block own
-
+-- the fault of a line in its block stands where the line begins, so it comes first, whatever begins there
 abbrev pub blamed : LogicalLine → Option TokenFault → LogicalLine
-blamed line block = record { tokens = line.tokens; span = line.span; column = line.column; fault = own_first line.tokens line.fault block }
+blamed line block = record { tokens = line.tokens; span = line.span; column = line.column; fault = or_else block line.fault }
 
 abbrev pub mark : List ℕ → List LogicalLine → List LogicalLine
 mark bs [] = []

@@ -2,7 +2,7 @@
 ghost use Rattle.std.specs.Prelude.{◌≡◌, ◌+◌, ◌^◌, ◌<◌, ◌≤◌, List, ◌∷◌, ◌++◌, [], length, IfOk, OnOk, not, find, filter_map, sum_by, slice_range, encode_utf8_all};
 ghost use Rattle.std.specs.List.{All};
 ghost use Rattle.py_tokens.specs.Width.{width, next_column};
-ghost use Rattle.py_tokens.specs.Lines.{Group, is_gap, is_line_end, IsWithin, token_of, token_in, fault_kind, first_fault, is_wide, own_fault, end_of, line_of, begins_badly, blamed, mark, told, groups, placed};
+ghost use Rattle.py_tokens.specs.Lines.{Group, is_gap, is_line_end, IsWithin, token_of, token_in, fault_kind, first_fault, is_wide, own_fault, end_of, line_of, blamed, mark, told, groups, placed};
 ghost use Rattle.py_tokens.specs.Spans.{IsLineIn};
 ghost use Rattle.py_tokens.specs.declared.lines.Placed.{Placed};
 
@@ -98,11 +98,14 @@ fn text_of(text: &[char], x: Placed) -> &[char]
     &text[x.from as usize..x.to as usize]
 }
 
-// A text of these characters.
+// A text of these characters, in a block that has room for all of them where they are ASCII.
 fn spelled(alloc: Global, text: &[char]) -> Result<Text, NoMemory>
     ensures { IfOk result (λ t. t ≡ encode_utf8_all text.now) }
 {
-    let string = text.iter().copied().collect(alloc)?;
+    let mut string = String::with_capacity(alloc, text.len())?;
+    for c in text {
+        string.push(*c)?;
+    }
     Ok(Text::from_string(string))
 }
 
@@ -121,6 +124,13 @@ fn token_of(alloc: Global, text: &[char], x: Placed, kind: TokenKind) -> Result<
     })
 }
 
+// How many tokens a line has, so that their list is asked for once.
+fn token_count(line: &[Placed]) -> usize {
+    line.iter()
+        .filter(|x| matches!(x.kind, Kind::Token(_)))
+        .count()
+}
+
 // The tokens of a line.
 fn tokens_of(
     alloc: Global,
@@ -131,7 +141,7 @@ fn tokens_of(
     requires { All (IsWithin start (length text.now)) line.now }
     ensures { IfOk result (λ tokens. tokens ≡ filter_map (token_in text.now) line.now) }
 {
-    let mut tokens = List::new(alloc);
+    let mut tokens = List::from_vec(Vec::with_capacity(alloc, token_count(line))?);
     for x in line {
         if let Kind::Token(kind) = x.kind {
             tokens.push(token_of(alloc, text, *x, kind)?)?;
@@ -246,18 +256,11 @@ struct Lines {
     line: Vec<Placed>,
 }
 
-// Whether the line begins with a character at which no token begins.
-fn begins_badly(line: &LogicalLine) -> bool
-    ensures { result ≡ begins_badly line.now.tokens line.now.fault }
-{
-    line.tokens.is_empty() && matches!(line.fault, Some(TokenFault::BadCharacter))
-}
-
-// The fault of a line in its block comes first, but behind a bad character at the line's front.
+// The fault of a line in its block comes first.
 fn blamed(mut line: LogicalLine, block: Option<TokenFault>) -> LogicalLine
     ensures { result ≡ blamed line block }
 {
-    if block.is_some() && !begins_badly(&line) {
+    if block.is_some() {
         line.fault = block;
     }
     line

@@ -117,11 +117,14 @@ fn opening_at(prefix: usize, formatted: bool, quotes: Quotes) -> Opening
 }
 
 /// How the string begins that begins at the front.
-#[tactic(auto, unfolding(crate::specs::Strings::string_opening))]
+#[tactic(auto, unfolding(crate::specs::Strings::string_opening), using(crate::proofs::Openings::no_prefix_pair))]
 pub fn string_opening(text: &[char]) -> Option<Opening>
     ensures { result ≡ string_opening text.now }
 {
     let c = char_at(text, 0);
+    if !is_quote(c) && !is_prefix(c) {
+        return None;
+    }
     let d = char_at(text, 1);
     let e = char_at(text, 2);
     if is_quote(c) {
