@@ -22,8 +22,8 @@
 mod fault;
 mod kinds;
 mod operators;
-#[cfg(test)]
 mod room;
+#[cfg(test)]
 mod tests;
 mod tree;
 mod words;
