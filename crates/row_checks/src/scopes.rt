@@ -69,7 +69,7 @@ fn add_node(
     requires owned { length named.now.scopes.owners ≡ length named.now.tree.nodes }
     requires node { node.0 < length named.now.tree.nodes }
 {
-    match named.tree.node(node).kind {
+    match named.tree.kind(node) {
         NodeKind::Name => Ok(facts.push(name_fact(alloc, named, node)?)?),
         NodeKind::ClassStatement => Ok(facts.push(class_fact(alloc, named, node)?)?),
         _ => Ok(()),

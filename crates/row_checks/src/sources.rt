@@ -56,17 +56,14 @@ pub fn first_line(text: &str) -> &str {
 
 /// The first line of a node's words; such sources are ASCII, so characters are bytes.
 pub fn words_of<'a>(named: &Named<'a>, node: NodeId) -> &'a str {
-    if (node.0 as usize) >= named.tree.node_count() {
-        return "?";
-    }
-    let span = named.tree.node(node).span;
+    let span = named.tree.span(node);
     let words = named.source.get(span.from as usize..span.to as usize);
     first_line(words.unwrap_or("?"))
 }
 
 /// Whether a node is of this kind.
 pub fn is_of_kind(tree: &Tree, node: NodeId, kind: NodeKind) -> bool {
-    (node.0 as usize) < tree.node_count() && tree.node(node).kind == kind
+    tree.kind(node) == kind
 }
 
 // Whether a node is a name of these words.

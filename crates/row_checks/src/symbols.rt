@@ -11,7 +11,8 @@ use std::fmt::Write;
 
 // Whether a node is a name of this symbol.
 fn is_name_of(named: &Named, node: NodeId, symbol: SymId) -> bool
-    requires { length named.now.scopes.owners ≡ length named.now.tree.nodes }
+    requires owned { length named.now.scopes.owners ≡ length named.now.tree.nodes }
+    requires node { node.0 < length named.now.tree.nodes }
 {
     if !is_of_kind(&named.tree, node, NodeKind::Name) {
         return false;
