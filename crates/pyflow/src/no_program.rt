@@ -5,7 +5,7 @@ ghost use Rattle.pyflow.specs.TypeText.{unwritten};
 use py_base::{ClassId, FuncId, Key, List, NameId, NodeId, SiteId, Stop};
 use std::alloc::Global;
 use type_terms::Type;
-use type_terms::facts::{Facts, FuncKind, FuncRow, Names};
+use type_terms::facts::{Facts, FuncKind, FuncRow, Names, SiteSlots};
 use type_terms::view::{Types, View};
 
 /// No program: no key, name or function is known.
@@ -24,7 +24,8 @@ impl NoProgram {
                 params: List::new(alloc),
                 result: None,
                 guard: false,
-                opaque: false,
+                is_async: false,
+                is_generator: false,
             },
         }
     }
@@ -91,8 +92,8 @@ impl Facts for NoProgram {
         None
     }
 
-    fn site_slots(&self, _site: SiteId) -> u32 {
-        0
+    fn site_slots(&self, _site: SiteId) -> SiteSlots {
+        SiteSlots::Filled(0)
     }
 }
 

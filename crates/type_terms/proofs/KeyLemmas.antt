@@ -4,7 +4,7 @@ use Rattle.std.proofs.lemmas.List.{drop_all}
 use Rattle.std.proofs.lemmas.Bool.Decides.{nat_tests}
 use Rattle.std.specs.Prelude.{ℤ, pos}
 use Rattle.std.specs.declared.cmp.Ordering.TheVariants.{Less, Equal, Greater}
-use Rattle.std.specs.Ordering.{nat_cmp, int_cmp, bool_cmp, ordering_then}
+use Rattle.std.specs.Ordering.{nat_cmp, int_cmp, ordering_then}
 use Rattle.std.specs.Cmp.Lexicographic.{slice_cmp}
 use Rattle.type_terms.specs.SortKey.{SortKey, end, part, key_cmp, number, bit, bytes_key, listed}
 use Rattle.py_base.specs.declared.ids.ClassId.{ClassId}
@@ -108,19 +108,13 @@ then_more Less p q = refl
 then_more Equal p q = refl
 then_more Greater p q = refl
 
-bit_cmp : (a b : Bool) → bool_cmp a b ≡ nat_cmp (bit a) (bit b)
-bit_cmp true true = refl
-bit_cmp true false = refl
-bit_cmp false true = refl
-bit_cmp false false = refl
-
-head_cmp : (k l c d p q : ℕ) (i j : Bool) (x y : SortKey)
-    → key_cmp (head k c p i x) (head l d q j y) ≡ ordering_then (ordering_then (nat_cmp k l) (ordering_then (nat_cmp c d) (ordering_then (nat_cmp p q) (bool_cmp i j)))) (key_cmp x y)
+head_cmp : (k l c d p q i j : ℕ) (x y : SortKey)
+    → key_cmp (head k c p i x) (head l d q j y) ≡ ordering_then (ordering_then (nat_cmp k l) (ordering_then (nat_cmp c d) (ordering_then (nat_cmp p q) (nat_cmp i j)))) (key_cmp x y)
 head_cmp k l c d p q i j x y =
-    rw (int_cmp-pos k l, int_cmp-pos c d, int_cmp-pos p q, int_cmp-pos (bit i) (bit j), ← bit_cmp i j)
+    rw (int_cmp-pos k l, int_cmp-pos c d, int_cmp-pos p q, int_cmp-pos i j)
     (sym (then_more (nat_cmp k l) _ _ ∙ ap (ordering_then (nat_cmp k l)) (then_more (nat_cmp c d) _ _ ∙ ap (ordering_then (nat_cmp c d)) (then_more (nat_cmp p q) _ _))))
 
 -- keys compare by their heads, and then by what stands behind
-pub keys_cmp : {a b : SortKey} (k l c d p q : ℕ) (i j : Bool) (x y : SortKey) → a ≡ head k c p i x → b ≡ head l d q j y
-    → IsThen (key_cmp a b) (ordering_then (nat_cmp k l) (ordering_then (nat_cmp c d) (ordering_then (nat_cmp p q) (bool_cmp i j)))) (key_cmp x y)
+pub keys_cmp : {a b : SortKey} (k l c d p q i j : ℕ) (x y : SortKey) → a ≡ head k c p i x → b ≡ head l d q j y
+    → IsThen (key_cmp a b) (ordering_then (nat_cmp k l) (ordering_then (nat_cmp c d) (ordering_then (nat_cmp p q) (nat_cmp i j)))) (key_cmp x y)
 keys_cmp k l c d p q i j x y e f = record { is = rw (e, f) (head_cmp k l c d p q i j x y) }

@@ -2,6 +2,8 @@
 use Rattle.std.proofs.Common.{◌≡◌, ℕ, Bool, true, false, List, [], ◌∷◌, map, refl, sym, ap, ◌∙◌, arith, eqb}
 use Rattle.std.specs.Prelude.{ℤ, pos, negsuc}
 use Rattle.py_base.specs.declared.ids.ClassId.{ClassId}
+use Rattle.py_base.specs.declared.ids.InnerTuple.{InnerTuple}
+use Rattle.py_base.specs.declared.ids.InnerTuple.TheVariants as inner
 use Rattle.type_terms.specs.declared.literal.Literal.{Literal}
 use Rattle.type_terms.specs.declared.literal.Literal.TheVariants as literal
 use Rattle.type_terms.specs.declared.atom.Slots.{Slots}
@@ -9,7 +11,7 @@ use Rattle.type_terms.specs.declared.atom.Slots.TheVariants.{Each, Endless, AnyA
 use Rattle.type_terms.specs.declared.atom.Atom.{Atom, map-Atom, out-Atom, roll-Atom, roll-out-Atom, ind-Atom}
 use Rattle.type_terms.specs.declared.atom.Atom.TheOpen.{Atom-F}
 use Rattle.type_terms.specs.SortKey.{SortKey, end, part, bit, bytes_key, listed}
-use Rattle.type_terms.specs.Order.{key, key_step, keyed, kind_in, class_in, rest_in, literal_class, literal_key, slots_key}
+use Rattle.type_terms.specs.Order.{key, key_step, keyed, kind_in, class_in, rest_in, literal_class, literal_key, slots_key, inner_number}
 use Rattle.type_terms.proofs.KeyOf.{key-roll, keyed-is}
 
 -- what can be read from a key
@@ -33,8 +35,19 @@ next_in (part z inner next) = next
 abbrev place_in : SortKey → ℕ
 place_in k = first_in (next_in (next_in k))
 
-abbrev inner_bit : SortKey → Bool
-inner_bit k = eqb (first_in (next_in (next_in (next_in k)))) 1
+abbrev tuple_in : SortKey → ℕ
+tuple_in k = first_in (next_in (next_in (next_in k)))
+
+inner_same : (a b : InnerTuple) → inner_number a ≡ inner_number b → a ≡ b
+inner_same inner.None inner.None e = refl
+inner_same inner.None inner.Pair e = absurd (omega (arith, e))
+inner_same inner.None (inner.Zip n) e = absurd (omega (arith, e))
+inner_same inner.Pair inner.None e = absurd (omega (arith, e))
+inner_same inner.Pair inner.Pair e = refl
+inner_same inner.Pair (inner.Zip n) e = absurd (omega (arith, e))
+inner_same (inner.Zip m) inner.None e = absurd (omega (arith, e))
+inner_same (inner.Zip m) inner.Pair e = absurd (omega (arith, e))
+inner_same (inner.Zip m) (inner.Zip n) e = let same : m ≡ n = omega (arith, e) in ap inner.Zip same
 
 bit-back : (b : Bool) → eqb (bit b) 1 ≡ b
 bit-back true = refl
@@ -121,7 +134,7 @@ level_same : (x : Atom-F Known) (y : Atom-F Atom) → level_key (below x) ≡ le
 level_same (Atom-F.Lit a) (Atom-F.Lit b) e = ap Atom-F.Lit (literal_same a b (ap (λ k. record { 0 = class_in k }) e) (ap rest_in e))
 level_same (Atom-F.Gen c a) (Atom-F.Gen d b) e = Gen_same c d a b e
 level_same (Atom-F.Site a) (Atom-F.Site b) e =
-    let inner = sym (bit-back a.inner) ∙ ap inner_bit e ∙ bit-back b.inner in
+    let inner = inner_same a.inner b.inner (ap tuple_in e) in
     let node : a.node ≡ b.node = ap (λ k. record { 0 = place_in k }) e in
     let class : a.class ≡ b.class = ap (λ k. record { 0 = class_in k }) e in
     λ i. Atom-F.Site (record { node = node i; class = class i; inner = inner i })

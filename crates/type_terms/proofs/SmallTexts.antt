@@ -3,7 +3,8 @@ use Rattle.std.proofs.Common.{◌≡◌, ℕ, ℤ, false, true, List, [], ◌∷
 use Rattle.std.specs.Prelude.{codes}
 use Rattle.std.specs.List.{flat_map}
 use Rattle.std.proofs.lemmas.List.{append-nil}
-use Rattle.type_terms.specs.Classes.{int_class, str_class}
+use Rattle.py_base.specs.Builtins.{id_of}
+use Rattle.py_base.specs.declared.builtin.Builtin.TheVariants as builtin
 use Rattle.type_terms.specs.declared.literal.Literal.{Literal}
 use Rattle.type_terms.specs.declared.literal.Literal.TheVariants as literal
 use Rattle.type_terms.specs.declared.atom.Atom.{Atom}
@@ -18,11 +19,11 @@ use Rattle.type_terms.specs.View.{Meaning}
 use Rattle.type_terms.proofs.KeyOf.{key-Lit, key-Inst}
 use Rattle.type_terms.proofs.OutOf.{out-Lit, out-Unknown, out-None}
 
-text-one : (m : Meaning) (a : Atom) (word : List ℕ) → shown m (a ∷ []) a ≡ Itself → atom_pieces m a ≡ said word → text m 4 (a ∷ []) ≡ word
+text-one : (m : Meaning) (a : Atom) (word : List ℕ) → shown m (a ∷ []) a ≡ Itself → atom_pieces m 64 a ≡ said word → text m 4 (a ∷ []) ≡ word
 text-one m a word itself pieces =
-    let opened : member_text m (text m 3) (a ∷ []) a ≡ flat_map (piece_text m (text m 3)) (atom_pieces m a) = ap (λ s. flat_map (piece_text m (text m 3)) (shown_pieces m a s)) itself in
-    let kept : text m 4 (a ∷ []) ≡ flat_map (piece_text m (text m 3)) (atom_pieces m a) ++ [] = rw itself (ap (λ w. w ++ []) opened) in
-    kept ∙ append-nil (flat_map (piece_text m (text m 3)) (atom_pieces m a)) ∙ ap (flat_map (piece_text m (text m 3))) pieces ∙ append-nil word
+    let opened : member_text m 3 (text m 3) (a ∷ []) a ≡ flat_map (piece_text m (text m 3)) (atom_pieces m 64 a) = ap (λ s. flat_map (piece_text m (text m 3)) (shown_pieces m 3 a s)) itself in
+    let kept : text m 4 (a ∷ []) ≡ flat_map (piece_text m (text m 3)) (atom_pieces m 64 a) ++ [] = rw itself (ap (λ w. w ++ []) opened) in
+    kept ∙ append-nil (flat_map (piece_text m (text m 3)) (atom_pieces m 64 a)) ∙ ap (flat_map (piece_text m (text m 3))) pieces ∙ append-nil word
 
 pub text-none : (m : Meaning) → text m 4 [] ≡ codes "Never"
 text-none m = refl
@@ -31,7 +32,7 @@ shown-Unknown : (m : Meaning) (type : List Atom) → shown m type atom.Unknown �
 unfolding shown
 shown-Unknown m type = rw out-Unknown refl
 
-pieces-Unknown : (m : Meaning) → atom_pieces m atom.Unknown ≡ said (codes "Unknown")
+pieces-Unknown : (m : Meaning) → atom_pieces m 64 atom.Unknown ≡ said (codes "Unknown")
 unfolding atom_pieces
 pieces-Unknown m = rw out-Unknown refl
 
@@ -42,24 +43,24 @@ shown-None : (m : Meaning) (type : List Atom) → shown m type atom.None ≡ Its
 unfolding shown
 shown-None m type = rw out-None refl
 
-pieces-None : (m : Meaning) → atom_pieces m atom.None ≡ said (codes "None")
+pieces-None : (m : Meaning) → atom_pieces m 64 atom.None ≡ said (codes "None")
 unfolding atom_pieces
 pieces-None m = rw out-None refl
 
 pub text-None : (m : Meaning) → text m 4 (atom.None ∷ []) ≡ codes "None"
 text-None m = text-one m atom.None (codes "None") (shown-None m (atom.None ∷ [])) (pieces-None m)
 
-pieces-Lit : (m : Meaning) (value : Literal) → atom_pieces m (atom.Lit value) ≡ said (literal_text m value)
+pieces-Lit : (m : Meaning) (value : Literal) → atom_pieces m 64 (atom.Lit value) ≡ said (literal_text m value)
 unfolding atom_pieces
 pieces-Lit m value = rw (out-Lit value) refl
 
-apart-Int : (z : ℤ) → has (atom.Lit (literal.Int z) ∷ []) (atom.Inst int_class) ≡ false
+apart-Int : (z : ℤ) → has (atom.Lit (literal.Int z) ∷ []) (atom.Inst (id_of builtin.Int)) ≡ false
 unfolding has atom_cmp
-apart-Int z = rw (key-Inst int_class, key-Lit (literal.Int z)) refl
+apart-Int z = rw (key-Inst (id_of builtin.Int), key-Lit (literal.Int z)) refl
 
-apart-Str : (t : List ℕ) → has (atom.Lit (literal.Str t) ∷ []) (atom.Inst str_class) ≡ false
+apart-Str : (t : List ℕ) → has (atom.Lit (literal.Str t) ∷ []) (atom.Inst (id_of builtin.Str)) ≡ false
 unfolding has atom_cmp
-apart-Str t = rw (key-Inst str_class, key-Lit (literal.Str t)) refl
+apart-Str t = rw (key-Inst (id_of builtin.Str), key-Lit (literal.Str t)) refl
 
 apart-True : has (atom.Lit (literal.Bool true) ∷ []) (atom.Lit (literal.Bool false)) ≡ false
 unfolding has atom_cmp

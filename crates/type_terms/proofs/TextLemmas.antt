@@ -1,6 +1,6 @@
 -- What the text of a type is made of.
-use Rattle.std.proofs.Common.{◌≡◌, ◌≢◌, ℕ, zero, suc, ◌+◌, ◌-◌, ◌<◌, ◌≤◌, Bool, true, false, cond, not, ◌&&◌, ◌||◌, List, [], ◌∷◌, ◌++◌, length, get_or, drop, Option, Some, None, refl, sym, ap, ◌∙◌, eqb, arith, inl, inr}
-use Rattle.std.proofs.lemmas.List.{append-nil, length-drop, drop_all}
+use Rattle.std.proofs.Common.{◌≡◌, ◌≢◌, ℕ, zero, suc, ◌+◌, ◌-◌, ◌<◌, ◌≤◌, Bool, true, false, cond, not, ◌&&◌, ◌||◌, List, [], ◌∷◌, ◌++◌, length, get_or, take, min, drop, Option, Some, None, refl, sym, ap, ◌∙◌, eqb, arith, inl, inr}
+use Rattle.std.proofs.lemmas.List.{append-nil, length-drop, length-take, drop_all}
 use Rattle.std.proofs.lemmas.List.Elements.{filter-append}
 use Rattle.std.proofs.lemmas.Map.Views.{any-filter_same}
 use Rattle.std.proofs.lemmas.Slice.Eq.{bytes_eq-Decides}
@@ -16,11 +16,13 @@ use Rattle.type_terms.specs.declared.atom.Slots.TheVariants.{Each, Endless, AnyA
 use Rattle.type_terms.specs.declared.atom.Atom.{Atom, out-Atom}
 use Rattle.type_terms.specs.declared.atom.Atom.TheOpen.{Atom-F}
 use Rattle.type_terms.specs.declared.facts.Param.{Param}
+use Rattle.type_terms.specs.declared.facts.SiteSlots.{SiteSlots}
+use Rattle.type_terms.specs.declared.facts.SiteSlots.TheVariants.{Filled, Repeated}
 use Rattle.type_terms.specs.declared.piece.Piece.{Piece}
 use Rattle.type_terms.specs.declared.show.Shown.{Shown}
 use Rattle.type_terms.specs.declared.show.Shown.TheVariants.{Dropped, Whole, Itself}
-use Rattle.type_terms.specs.Pieces.{types_pieces, or_brackets, slots_pieces, generic_pieces, site_slots_pieces, site_pieces, param_pieces, written_result, typed_or_returned, function_pieces, level_pieces, atom_pieces}
-use Rattle.type_terms.specs.Text.{IsAskable, shown, shown_pieces, member_pieces, distinct, put_last, members_text, members_keys, text, text_keys}
+use Rattle.type_terms.specs.Pieces.{dots, types_pieces, first_types, or_brackets, slots_pieces, generic_pieces, site_slots_pieces, made_pieces, site_pieces, param_pieces, written_result, typed_or_returned, function_pieces, level_pieces, atom_pieces}
+use Rattle.type_terms.specs.Text.{IsAskable, params_limit, shown, shown_pieces, member_pieces, distinct, put_last, members_text, members_keys, text, text_keys}
 use Rattle.type_terms.specs.View.{Meaning}
 use Rattle.type_terms.proofs.SetLaws.{all_append}
 
@@ -72,11 +74,18 @@ module _ (m : Meaning) where
   brackets_askable true ps h = (tt, tt)
   brackets_askable false ps h = h
 
-  slots_askable : (slots : Slots (List Atom)) → Askable (slots_pieces slots)
-  slots_askable (Each types) = brackets_askable (eqb (length types) 0) _ (types_askable true types)
-  slots_askable (Endless type) = (tt, (tt, tt))
-  slots_askable (AnyArguments type) = (tt, (tt, tt))
-  slots_askable (Arguments types type) = (tt, all_append (IsAskable m) (types_pieces true types) _ (types_askable true types) (tt, (tt, tt)))
+  dots_askable : (more : Bool) → Askable (dots more)
+  dots_askable true = (tt, tt)
+  dots_askable false = tt
+
+  first_types_askable : (most : ℕ) (ts : List (List Atom)) → Askable (first_types most ts)
+  first_types_askable most ts = all_append (IsAskable m) (types_pieces true (take most ts)) _ (types_askable true (take most ts)) (dots_askable _)
+
+  slots_askable : (most : ℕ) (slots : Slots (List Atom)) → Askable (slots_pieces most slots)
+  slots_askable most (Each types) = brackets_askable (eqb (length types) 0) _ (first_types_askable 16 types)
+  slots_askable most (Endless type) = (tt, (tt, tt))
+  slots_askable most (AnyArguments type) = (tt, (tt, tt))
+  slots_askable most (Arguments types type) = (tt, all_append (IsAskable m) (first_types most types) _ (first_types_askable most types) (tt, (tt, tt)))
 
   generic_askable : (class : ClassId) (ps : List Piece) → Askable ps → Askable (generic_pieces m class ps)
   generic_askable class ps h = (tt, all_append (IsAskable m) ps _ h (tt, tt))
@@ -85,45 +94,55 @@ module _ (m : Meaning) where
   site_slots_askable site first place zero = tt
   site_slots_askable site first place (suc more) = (tt, (tt, site_slots_askable site false (place + 1) more))
 
+  made_askable : (site : SiteId) (slots : SiteSlots) → Askable (made_pieces site slots)
+  made_askable site (Filled count) =
+      brackets_askable (eqb count 0) _ (all_append (IsAskable m) (site_slots_pieces site true 0 (min count 16)) _ (site_slots_askable site true 0 (min count 16)) (dots_askable _))
+  made_askable site Repeated = (tt, (tt, tt))
+
   params_askable : (func : FuncId) (first : Bool) (place : ℕ) (ps : List Param) → place + length ps ≤ length (m.facts.func func).params → Askable (param_pieces m func first place ps)
   params_askable func first place [] h = tt
   params_askable func first place (p ∷ ps) h = (tt, (omega arith, params_askable func false (place + 1) ps (omega arith)))
 
-  taken_askable : (func : FuncId) (taken : ℕ) → Askable (param_pieces m func true taken (drop taken (m.facts.func func).params))
-  taken_askable func taken = elim (cases_lt (length (m.facts.func func).params) taken) [
-    | inl beyond ↦ rw (drop_all taken (m.facts.func func).params (omega arith)) tt
-    | inr within ↦ params_askable func true taken _ (omega (arith, length-drop taken (m.facts.func func).params))
-  ]
+  taken_askable : (func : FuncId) (taken end : ℕ) → Askable (param_pieces m func true taken (drop taken (take end (m.facts.func func).params)))
+  taken_askable func taken end =
+      let params = take end (m.facts.func func).params in
+      let few = length-take end (m.facts.func func).params in
+      elim (cases_lt (length params) taken) [
+        | inl beyond ↦ rw (drop_all taken params (omega arith)) tt
+        | inr within ↦ params_askable func true taken _ (omega (arith, length-drop taken params, few))
+      ]
 
   result_askable : (func : FuncId) (written : Option (List Atom)) → Askable (typed_or_returned func written ∷ [])
   result_askable func None = (tt, tt)
   result_askable func (Some type) = (tt, tt)
 
-  function_askable : (func : FuncId) (taken : ℕ) → Askable (function_pieces m func taken)
-  function_askable func taken = (tt, all_append (IsAskable m) _ _ (taken_askable func taken) (tt, result_askable func (written_result (m.facts.func func))))
+  function_askable : (most : ℕ) (func : FuncId) (taken : ℕ) → Askable (function_pieces m most func taken)
+  function_askable most func taken =
+      let params = all_append (IsAskable m) _ _ (taken_askable func taken (taken + most)) (dots_askable _) in
+      (tt, all_append (IsAskable m) _ _ params (tt, result_askable func (written_result (m.facts.func func))))
 
-  site_askable : (site : SiteId) (func : Option FuncId) → Askable (site_pieces m site func)
-  site_askable site (Some func) = function_askable func 0
-  site_askable site None = generic_askable site.class _ (brackets_askable (eqb (m.facts.site_slots site) 0) _ (site_slots_askable site true 0 (m.facts.site_slots site)))
+  site_askable : (most : ℕ) (site : SiteId) (func : Option FuncId) → Askable (site_pieces m most site func)
+  site_askable most site (Some func) = function_askable most func 0
+  site_askable most site None = generic_askable site.class _ (made_askable site (m.facts.site_slots site))
 
-  level_askable : (x : Atom-F Atom) → Askable (level_pieces m x)
-  level_askable (Atom-F.Gen class slots) = generic_askable class (slots_pieces slots) (slots_askable slots)
-  level_askable (Atom-F.Site site) = site_askable site (m.facts.func_at site.node)
-  level_askable (Atom-F.Func func) = function_askable func 0
-  level_askable (Atom-F.Bound func) = function_askable func 1
-  level_askable _ = (tt, tt)
+  level_askable : (most : ℕ) (x : Atom-F Atom) → Askable (level_pieces m most x)
+  level_askable most (Atom-F.Gen class slots) = generic_askable class (slots_pieces most slots) (slots_askable most slots)
+  level_askable most (Atom-F.Site site) = site_askable most site (m.facts.func_at site.node)
+  level_askable most (Atom-F.Func func) = function_askable most func 0
+  level_askable most (Atom-F.Bound func) = function_askable most func 1
+  level_askable most _ = (tt, tt)
 
-  atom_askable : (a : Atom) → Askable (atom_pieces m a)
+  atom_askable : (most : ℕ) (a : Atom) → Askable (atom_pieces m most a)
   unfolding atom_pieces
-  atom_askable a = level_askable (out-Atom a)
+  atom_askable most a = level_askable most (out-Atom a)
 
-  shown_askable : (a : Atom) (s : Shown) → Askable (shown_pieces m a s)
-  shown_askable a Dropped = tt
-  shown_askable a (Whole class) = (tt, tt)
-  shown_askable a Itself = atom_askable a
+  shown_askable : (levels : ℕ) (a : Atom) (s : Shown) → Askable (shown_pieces m levels a s)
+  shown_askable levels a Dropped = tt
+  shown_askable levels a (Whole class) = (tt, tt)
+  shown_askable levels a Itself = atom_askable (params_limit levels) a
 
-  pub member_askable : (type : List Atom) (a : Atom) → Askable (member_pieces m type a)
-  member_askable type a = shown_askable a (shown m type a)
+  pub member_askable : (levels : ℕ) (type : List Atom) (a : Atom) → Askable (member_pieces m levels type a)
+  member_askable levels type a = shown_askable levels a (shown m type a)
 
 pub all_at : {X : Type 0} (P : X → Type 0) (xs : List X) (i : ℕ) (d : X) → AllByRecursion P xs → i < length xs → P (get_or xs i d)
 all_at P [] i d h within = absurd (omega arith)

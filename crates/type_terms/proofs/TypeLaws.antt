@@ -2,7 +2,11 @@
 use Rattle.std.proofs.Common.{◌≡◌, ℕ, Bool, true, false, ◌||◌, List, [], ◌∷◌, ◌++◌, length, Result, refl, sym, ap, ◌∙◌}
 use Rattle.std.specs.Result.{is_ok}
 use Rattle.std.specs.Cmp.{IsEquivalence, eq_by_cmp_equiv, both_ways, Equal-is}
-use Rattle.std.specs.List.{dedup}
+use Rattle.std.specs.Bool.{Decides}
+use Rattle.std.specs.Cmp.Lexicographic.{pointwise}
+use Rattle.std.specs.List.{dedup, Contains}
+use Rattle.std.proofs.lemmas.Slice.Eq.{slice_eq-Decides}
+use Rattle.std.proofs.lemmas.Map.Made.{is_member-Decides}
 use Rattle.std.specs.List.Sorted.{IsStrictlySortedBy, IsSearchInRange, IsBinarySearchResult, IsSorted, IsPermutation}
 use Rattle.std.specs.Ordering.{eq_by_cmp}
 use Rattle.std.proofs.lemmas.List.Kept.{Contains-dedup, Contains-from_dedup, IsStrictlySortedBy-dedup}
@@ -129,3 +133,14 @@ sorted_is atoms sorted moved h = same_types _ _ (sorted-IsType sorted h) (type_o
 pub IsType-bools : IsType both_bools
 unfolding IsStrictlySortedBy atom_cmp
 IsType-bools = ((rw (key-Lit (literal.Bool false), key-Lit (literal.Bool true)) refl, tt), (tt, tt))
+
+-- equal lists, by comparing each two atoms
+atoms_decide : (a b : Atom) → Decides (eq_by_cmp atom_cmp a b) (a ≡ b)
+atoms_decide a b = (ties_are_equal a b, λ e. ap (λ x. eq_by_cmp atom_cmp a x) (sym e) ∙ same_order.refl a)
+
+pub lists_decide : (one other : List Atom) → Decides (pointwise (eq_by_cmp atom_cmp) one other) (one ≡ other)
+lists_decide one other = slice_eq-Decides atoms_decide one other (pointwise (eq_by_cmp atom_cmp) one other) refl
+
+pub has_decides : (type : List Atom) (a : Atom) → Decides (has type a) (Contains type a)
+unfolding has
+has_decides type a = is_member-Decides atoms_decide type a

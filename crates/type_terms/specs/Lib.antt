@@ -1,5 +1,4 @@
 pub mod Asked
-pub mod Classes
 pub mod Facts
 pub mod KeyOrder
 pub mod LiteralText

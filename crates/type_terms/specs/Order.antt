@@ -4,12 +4,15 @@
 -- numbers: what it means in a text is for those who number. Names of the language are numbered in the
 -- order of their bytes behind the builtin classes, functions by the node of their def or lambda, and
 -- rows of builtins by receiver class and name.
-use Rattle.std.specs.Prelude.{ℕ, pos, negsuc, Bool, false, List, map}
+use Rattle.std.specs.Prelude.{ℕ, ◌+◌, pos, negsuc, List, map}
 use Rattle.std.specs.declared.cmp.Ordering.{Ordering}
 use Rattle.py_base.specs.declared.ids.ClassId.{ClassId}
+use Rattle.py_base.specs.declared.ids.InnerTuple.{InnerTuple}
+use Rattle.py_base.specs.declared.ids.InnerTuple.TheVariants as inner
 use Rattle.type_terms.specs.declared.literal.Literal.{Literal}
 use Rattle.type_terms.specs.declared.literal.Literal.TheVariants as literal
-use Rattle.type_terms.specs.Classes.{int_class, bool_class, str_class, bytes_class}
+use Rattle.py_base.specs.Builtins.{id_of}
+use Rattle.py_base.specs.declared.builtin.Builtin.TheVariants as builtin
 use Rattle.type_terms.specs.declared.atom.Slots.{Slots}
 use Rattle.type_terms.specs.declared.atom.Slots.TheVariants.{Each, Endless, AnyArguments, Arguments}
 use Rattle.type_terms.specs.declared.atom.Atom.{Atom, fold-Atom}
@@ -18,10 +21,10 @@ use Rattle.type_terms.specs.SortKey.{SortKey, end, part, number, bit, bytes_key,
 
 -- the class of a literal's value
 abbrev pub literal_class : Literal → ClassId
-literal_class (literal.Int z) = int_class
-literal_class (literal.Bool b) = bool_class
-literal_class (literal.Str t) = str_class
-literal_class (literal.Bytes bs) = bytes_class
+literal_class (literal.Int z) = id_of builtin.Int
+literal_class (literal.Bool b) = id_of builtin.Bool
+literal_class (literal.Str t) = id_of builtin.Str
+literal_class (literal.Bytes bs) = id_of builtin.Bytes
 literal_class (literal.Member class place) = class
 
 -- the kinds of literals, in their order
@@ -60,9 +63,15 @@ slots_in (Arguments types type) = part (pos 0) (listed (map listed types)) (list
 abbrev pub slots_key : Slots (List SortKey) → SortKey
 slots_key slots = number (form slots) (slots_in slots)
 
--- the kind, the class, the node or another number, and whether it is the inner site of two
-abbrev pub head : ℕ → ℕ → ℕ → Bool → SortKey → SortKey
-head kind class place inner rest = number kind (number class (number place (number (bit inner) rest)))
+-- the value that a node makes stands before its inner tuples, and these by their slots
+abbrev pub inner_number : InnerTuple → ℕ
+inner_number inner.None = 0
+inner_number inner.Pair = 1
+inner_number (inner.Zip slots) = slots + 2
+
+-- the kind, the class, the node or another number, and which inner tuple of a site it is
+abbrev pub head : ℕ → ℕ → ℕ → ℕ → SortKey → SortKey
+head kind class place inner rest = number kind (number class (number place (number inner rest)))
 
 -- the kind in a key
 abbrev pub kind_in : SortKey → ℕ
@@ -84,23 +93,23 @@ class_in (part n inner (part (negsuc _) _ _)) = 0
 
 -- the key of an atom, from those of the atoms in it
 abbrev pub key_step : Atom-F SortKey → SortKey
-key_step (Atom-F.Lit value) = head 1 (literal_class value).0 0 false (literal_key value)
-key_step (Atom-F.Inst class) = head 2 class.0 0 false end
-key_step (Atom-F.Gen class slots) = head 3 class.0 0 false (slots_key slots)
-key_step (Atom-F.Site site) = head 4 site.class.0 site.node.0 site.inner end
-key_step (Atom-F.Class class) = head 5 class.0 0 false end
-key_step (Atom-F.Func func) = head 6 0 func.0 false end
-key_step (Atom-F.Bound func) = head 7 0 func.0 false end
-key_step (Atom-F.BuiltMethod row receiver) = head 8 (class_in receiver) 0 false (part (pos 0) receiver (number row end))
-key_step (Atom-F.BuiltFunc row) = head 9 0 row false end
-key_step (Atom-F.Super class) = head 10 class.0 0 false end
-key_step (Atom-F.Mod name) = head 11 0 name.0 false end
-key_step (Atom-F.Special name) = head 12 0 name.0 false end
-key_step Atom-F.Unknown = head 13 0 0 false end
-key_step Atom-F.None = head 14 0 0 false end
-key_step Atom-F.Unbound = head 15 0 0 false end
-key_step Atom-F.Open = head 16 0 0 false end
-key_step Atom-F.Here = head 17 0 0 false end
+key_step (Atom-F.Lit value) = head 1 (literal_class value).0 0 0 (literal_key value)
+key_step (Atom-F.Inst class) = head 2 class.0 0 0 end
+key_step (Atom-F.Gen class slots) = head 3 class.0 0 0 (slots_key slots)
+key_step (Atom-F.Site site) = head 4 site.class.0 site.node.0 (inner_number site.inner) end
+key_step (Atom-F.Class class) = head 5 class.0 0 0 end
+key_step (Atom-F.Func func) = head 6 0 func.0 0 end
+key_step (Atom-F.Bound func) = head 7 0 func.0 0 end
+key_step (Atom-F.BuiltMethod row receiver) = head 8 (class_in receiver) 0 0 (part (pos 0) receiver (number row end))
+key_step (Atom-F.BuiltFunc row) = head 9 0 row 0 end
+key_step (Atom-F.Super class) = head 10 class.0 0 0 end
+key_step (Atom-F.Mod name) = head 11 0 name.0 0 end
+key_step (Atom-F.Special name) = head 12 0 name.0 0 end
+key_step Atom-F.Unknown = head 13 0 0 0 end
+key_step Atom-F.None = head 14 0 0 0 end
+key_step Atom-F.Unbound = head 15 0 0 0 end
+key_step Atom-F.Open = head 16 0 0 0 end
+key_step Atom-F.Here = head 17 0 0 0 end
 
 unfoldable pub key : Atom → SortKey
 key = fold-Atom SortKey key_step

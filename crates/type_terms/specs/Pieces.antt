@@ -1,6 +1,6 @@
 -- What is written for an atom: words, and between them the texts of the types in it. Which types these
 -- are is written as it is known: a type, the type of a key, or the type of a parameter.
-use Rattle.std.specs.Prelude.{ℕ, zero, suc, ◌+◌, Bool, true, false, if◌then◌else◌, ◌==◌, List, [], ◌∷◌, ◌++◌, length, drop, codes, Option, Some, None}
+use Rattle.std.specs.Prelude.{ℕ, zero, suc, ◌+◌, Bool, true, false, ◌||◌, if◌then◌else◌, ◌==◌, nat_lt, min, List, [], ◌∷◌, ◌++◌, length, take, drop, codes, Option, Some, None}
 use Rattle.py_base.specs.declared.ids.ClassId.{ClassId}
 use Rattle.py_base.specs.declared.ids.FuncId.{FuncId}
 use Rattle.py_base.specs.declared.ids.SiteId.{SiteId}
@@ -14,6 +14,8 @@ use Rattle.type_terms.specs.declared.facts.ParamKind.{ParamKind}
 use Rattle.type_terms.specs.declared.facts.ParamKind.TheVariants as kind
 use Rattle.type_terms.specs.declared.facts.Param.{Param}
 use Rattle.type_terms.specs.declared.facts.FuncRow.{FuncRow}
+use Rattle.type_terms.specs.declared.facts.SiteSlots.{SiteSlots}
+use Rattle.type_terms.specs.declared.facts.SiteSlots.TheVariants.{Filled, Repeated}
 use Rattle.type_terms.specs.declared.piece.Piece.{Piece}
 use Rattle.type_terms.specs.declared.piece.Piece.TheVariants.{Word, Typed, OfKey, OfParam}
 use Rattle.type_terms.specs.LiteralText.{literal_text}
@@ -27,20 +29,29 @@ said text = Word text ∷ []
 abbrev pub comma : Bool → List ℕ
 comma first = if first then [] else codes ", "
 
+-- dots stand for the rest of a list
+abbrev pub dots : Bool → List Piece
+dots more = if more then said (codes ", ...") else []
+
 -- types one after another
 abbrev pub types_pieces : Bool → List (List Atom) → List Piece
 types_pieces first [] = []
 types_pieces first (t ∷ ts) = Word (comma first) ∷ Typed (type_of t) ∷ types_pieces false ts
 
+-- the first so many of them, and dots for the rest
+abbrev pub first_types : ℕ → List (List Atom) → List Piece
+first_types most types = types_pieces true (take most types) ++ dots (nat_lt most (length types))
+
 -- no slots are written as empty brackets, as for the empty tuple
 abbrev pub or_brackets : Bool → List Piece → List Piece
 or_brackets none pieces = if none then said (codes "()") else pieces
 
-abbrev pub slots_pieces : Slots (List Atom) → List Piece
-slots_pieces (Each types) = or_brackets (length types == 0) (types_pieces true types)
-slots_pieces (Endless type) = Typed (type_of type) ∷ said (codes ", ...")
-slots_pieces (AnyArguments type) = Word (codes "..., ") ∷ Typed (type_of type) ∷ []
-slots_pieces (Arguments types type) = Word (codes "[") ∷ types_pieces true types ++ Word (codes "], ") ∷ Typed (type_of type) ∷ []
+-- of slots the first 16 are written, of the parameters of a Callable the first so many
+abbrev pub slots_pieces : ℕ → Slots (List Atom) → List Piece
+slots_pieces most (Each types) = or_brackets (length types == 0) (first_types 16 types)
+slots_pieces most (Endless type) = Typed (type_of type) ∷ said (codes ", ...")
+slots_pieces most (AnyArguments type) = Word (codes "..., ") ∷ Typed (type_of type) ∷ []
+slots_pieces most (Arguments types type) = Word (codes "[") ∷ first_types most types ++ Word (codes "], ") ∷ Typed (type_of type) ∷ []
 
 abbrev pub generic_pieces : Meaning → ClassId → List Piece → List Piece
 generic_pieces m class slots = Word (m.view.class_word class ++ codes "[") ∷ slots ++ said (codes "]")
@@ -49,6 +60,10 @@ generic_pieces m class slots = Word (m.view.class_word class ++ codes "[") ∷ s
 abbrev pub site_slots_pieces : SiteId → Bool → ℕ → ℕ → List Piece
 site_slots_pieces site first place zero = []
 site_slots_pieces site first place (suc more) = Word (comma first) ∷ OfKey (Elem site place) ∷ site_slots_pieces site false (place + 1) more
+
+abbrev pub made_pieces : SiteId → SiteSlots → List Piece
+made_pieces site (Filled count) = or_brackets (count == 0) (site_slots_pieces site true 0 (min count 16) ++ dots (nat_lt 16 count))
+made_pieces site Repeated = OfKey (Elem site 0) ∷ said (codes ", ...")
 
 abbrev pub star : ParamKind → List ℕ
 star kind.Star = codes "*"
@@ -67,24 +82,27 @@ param_pieces m func first place (p ∷ ps) = Word (param_word m first p) ∷ OfP
 -- what a call of the function gives by what is written: something unknown for an async def and for a body
 -- with `yield`, a bool for a TypeGuard and a TypeIs, else the annotation
 abbrev pub written_result : FuncRow → Option (List Atom)
-written_result row = if row.opaque then Some (atom.Unknown ∷ []) else (if row.guard then Some both_bools else row.result)
+written_result row = if row.is_async || row.is_generator then Some (atom.Unknown ∷ []) else (if row.guard then Some both_bools else row.result)
 
 -- without an annotation it is what the function returns
 abbrev pub typed_or_returned : FuncId → Option (List Atom) → Piece
 typed_or_returned func (Some type) = Typed type
 typed_or_returned func None = OfKey (Ret func)
 
--- a function without the first so many of its parameters
-abbrev pub function_pieces : Meaning → FuncId → ℕ → List Piece
-function_pieces m func taken =
+-- the parameters up to an end, behind the first so many, and dots for the rest
+abbrev pub params_pieces : Meaning → FuncId → ℕ → ℕ → List Param → List Piece
+params_pieces m func taken end params = param_pieces m func true taken (drop taken (take end params)) ++ dots (nat_lt end (length params))
+
+-- a function without the first so many of its parameters, and at most so many of the others
+abbrev pub function_pieces : Meaning → ℕ → FuncId → ℕ → List Piece
+function_pieces m most func taken =
     let row = m.facts.func func in
-    Word (codes "(") ∷ param_pieces m func true taken (drop taken row.params) ++ Word (codes ") -> ") ∷ typed_or_returned func (written_result row) ∷ []
+    Word (codes "(") ∷ params_pieces m func taken (taken + most) row.params ++ Word (codes ") -> ") ∷ typed_or_returned func (written_result row) ∷ []
 
 -- a lambda is written as a function, every other site as a generic
-abbrev pub site_pieces : Meaning → SiteId → Option FuncId → List Piece
-site_pieces m site (Some func) = function_pieces m func 0
-site_pieces m site None =
-    let count = m.facts.site_slots site in generic_pieces m site.class (or_brackets (count == 0) (site_slots_pieces site true 0 count))
+abbrev pub site_pieces : Meaning → ℕ → SiteId → Option FuncId → List Piece
+site_pieces m most site (Some func) = function_pieces m most func 0
+site_pieces m most site None = generic_pieces m site.class (made_pieces site (m.facts.site_slots site))
 
 -- the text of an atom that holds no types
 abbrev pub level_word : Meaning → Atom-F Atom → List ℕ
@@ -103,12 +121,13 @@ level_word m _ = []
 unfoldable pub atom_word : Meaning → Atom → List ℕ
 atom_word m a = level_word m (out-Atom a)
 
-abbrev pub level_pieces : Meaning → Atom-F Atom → List Piece
-level_pieces m (Atom-F.Gen class slots) = generic_pieces m class (slots_pieces slots)
-level_pieces m (Atom-F.Site site) = site_pieces m site (m.facts.func_at site.node)
-level_pieces m (Atom-F.Func func) = function_pieces m func 0
-level_pieces m (Atom-F.Bound func) = function_pieces m func 1
-level_pieces m other = said (level_word m other)
+abbrev pub level_pieces : Meaning → ℕ → Atom-F Atom → List Piece
+level_pieces m most (Atom-F.Gen class slots) = generic_pieces m class (slots_pieces most slots)
+level_pieces m most (Atom-F.Site site) = site_pieces m most site (m.facts.func_at site.node)
+level_pieces m most (Atom-F.Func func) = function_pieces m most func 0
+level_pieces m most (Atom-F.Bound func) = function_pieces m most func 1
+level_pieces m most other = said (level_word m other)
 
-unfoldable pub atom_pieces : Meaning → Atom → List Piece
-atom_pieces m a = level_pieces m (out-Atom a)
+-- what is written for an atom, with at most so many parameters of a function
+unfoldable pub atom_pieces : Meaning → ℕ → Atom → List Piece
+atom_pieces m most a = level_pieces m most (out-Atom a)

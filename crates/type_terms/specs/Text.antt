@@ -1,13 +1,15 @@
 -- The text of a type, as diagnostics and hovers print it. Unbound, Open and Here are left out. Both bool
 -- literals are one member, and so are all members of an enum; an int, str or bytes literal is dropped
 -- beside its class. Of the first 16 members, and 4 at each deeper level, the texts are written, each
--- once; a last `...` stands for the members that were cut. Nothing left is `Never`.
+-- once; a last `...` stands for the members that were cut. Nothing left is `Never`. Of slots and of
+-- parameters the first are written too, so that the text has a bound whatever the type is.
 use Rattle.std.specs.Prelude.{◌≡◌, ◌<◌, Option, MatchOption, ℕ, zero, suc, ◌+◌, Bool, true, false, not, if◌then◌else◌, ◌==◌, ◌&&◌, nat_lt, List, [], ◌∷◌, ◌++◌, length, take, map, codes}
 use Rattle.std.specs.List.{flat_map, filter, list_any}
 use Rattle.std.specs.Str.{bytes_eq}
 use Rattle.py_base.specs.declared.ids.ClassId.{ClassId}
 use Rattle.py_base.specs.declared.key.Key.{Key}
-use Rattle.type_terms.specs.Classes.{int_class, bool_class, str_class, bytes_class}
+use Rattle.py_base.specs.Builtins.{id_of}
+use Rattle.py_base.specs.declared.builtin.Builtin.TheVariants as builtin
 use Rattle.type_terms.specs.declared.literal.Literal.{Literal}
 use Rattle.type_terms.specs.declared.literal.Literal.TheVariants as literal
 use Rattle.type_terms.specs.declared.atom.Atom.{Atom, out-Atom}
@@ -48,10 +50,10 @@ abbrev pub in_whole : Bool → ClassId → Bool → Shown
 in_whole whole class first = if whole then (if first then Whole class else Dropped) else Itself
 
 abbrev pub literal_shown : Meaning → List Atom → Literal → Shown
-literal_shown m type (literal.Int z) = beside type int_class
-literal_shown m type (literal.Bool b) = in_whole (has_bool type false && has_bool type true) bool_class (not b)
-literal_shown m type (literal.Str t) = beside type str_class
-literal_shown m type (literal.Bytes bs) = beside type bytes_class
+literal_shown m type (literal.Int z) = beside type (id_of builtin.Int)
+literal_shown m type (literal.Bool b) = in_whole (has_bool type false && has_bool type true) (id_of builtin.Bool) (not b)
+literal_shown m type (literal.Str t) = beside type (id_of builtin.Str)
+literal_shown m type (literal.Bytes bs) = beside type (id_of builtin.Bytes)
 literal_shown m type (literal.Member class place) = in_whole (is_whole m type class) class (place == 0)
 
 abbrev pub level_shown : Meaning → List Atom → Atom-F Atom → Shown
@@ -80,10 +82,14 @@ keeps m type a = is_kept (shown m type a)
 abbrev pub kept : Meaning → List Atom → List Atom
 kept m type = filter (keeps m type) type
 
-abbrev pub shown_pieces : Meaning → Atom → Shown → List Piece
-shown_pieces m a Dropped = []
-shown_pieces m a (Whole class) = said (m.view.class_word class)
-shown_pieces m a Itself = atom_pieces m a
+-- 64 parameters of a function at the outermost level, and 16 at each deeper one
+abbrev pub params_limit : ℕ → ℕ
+params_limit levels = if levels == 3 then 64 else 16
+
+abbrev pub shown_pieces : Meaning → ℕ → Atom → Shown → List Piece
+shown_pieces m levels a Dropped = []
+shown_pieces m levels a (Whole class) = said (m.view.class_word class)
+shown_pieces m levels a Itself = atom_pieces m (params_limit levels) a
 
 -- the type that a piece stands for, and the keys that are asked for it
 abbrev pub piece_type : Meaning → Piece → List Atom
@@ -131,18 +137,18 @@ abbrev pub barred : List (List ℕ) → List ℕ
 barred [] = codes "Never"
 barred (t ∷ ts) = t ++ flat_map (λ u. codes " | " ++ u) ts
 
-abbrev pub member_pieces : Meaning → List Atom → Atom → List Piece
-member_pieces m type a = shown_pieces m a (shown m type a)
+abbrev pub member_pieces : Meaning → ℕ → List Atom → Atom → List Piece
+member_pieces m levels type a = shown_pieces m levels a (shown m type a)
 
-abbrev pub member_text : Meaning → (List Atom → List ℕ) → List Atom → Atom → List ℕ
-member_text m inner type a = flat_map (piece_text m inner) (member_pieces m type a)
+abbrev pub member_text : Meaning → ℕ → (List Atom → List ℕ) → List Atom → Atom → List ℕ
+member_text m levels inner type a = flat_map (piece_text m inner) (member_pieces m levels type a)
 
 abbrev pub member_keys : Meaning → ℕ → (List Atom → List Key) → List Atom → Atom → List Key
-member_keys m levels inner type a = flat_map (piece_keys m levels inner) (member_pieces m type a)
+member_keys m levels inner type a = flat_map (piece_keys m levels inner) (member_pieces m levels type a)
 
 abbrev pub members_text : Meaning → ℕ → (List Atom → List ℕ) → List Atom → List ℕ
 members_text m levels inner type =
-    barred (distinct (map (member_text m inner type) (printed m levels type)) ++ (if nat_lt (limit levels) (length (kept m type)) then codes "..." ∷ [] else []))
+    barred (distinct (map (member_text m levels inner type) (printed m levels type)) ++ (if nat_lt (limit levels) (length (kept m type)) then codes "..." ∷ [] else []))
 
 abbrev pub members_keys : Meaning → ℕ → (List Atom → List Key) → List Atom → List Key
 members_keys m levels inner type = flat_map (member_keys m levels inner type) (printed m levels type)

@@ -5,7 +5,8 @@
 use Rattle.std.specs.Prelude.{◌≡◌, ℕ, zero, suc, ◌+◌, List, [], ◌∷◌, length, Option, MatchOption}
 use Rattle.std.specs.List.{flat_map}
 use Rattle.py_base.specs.declared.ids.ClassId.{ClassId}
-use Rattle.type_terms.specs.Classes.{int_class, str_class, bytes_class}
+use Rattle.py_base.specs.Builtins.{id_of}
+use Rattle.py_base.specs.declared.builtin.Builtin.TheVariants as builtin
 use Rattle.type_terms.specs.declared.literal.Literal.{Literal}
 use Rattle.type_terms.specs.declared.literal.Literal.TheVariants as literal
 use Rattle.type_terms.specs.declared.atom.Atom.{Atom, out-Atom}
@@ -23,10 +24,10 @@ abbrev pub all_members : NameTable → ClassId → List Atom
 all_members names class = members_from class 0 (length (names.enum_members class))
 
 abbrev pub widened_literal : NameTable → Literal → List Atom
-widened_literal names (literal.Int z) = atom.Inst int_class ∷ []
+widened_literal names (literal.Int z) = atom.Inst (id_of builtin.Int) ∷ []
 widened_literal names (literal.Bool b) = both_bools
-widened_literal names (literal.Str t) = atom.Inst str_class ∷ []
-widened_literal names (literal.Bytes bs) = atom.Inst bytes_class ∷ []
+widened_literal names (literal.Str t) = atom.Inst (id_of builtin.Str) ∷ []
+widened_literal names (literal.Bytes bs) = atom.Inst (id_of builtin.Bytes) ∷ []
 widened_literal names (literal.Member class place) = all_members names class
 
 abbrev pub level_widened : NameTable → Atom → Atom-F Atom → List Atom

@@ -35,6 +35,15 @@ impl Literal {
     }
 }
 
+impl Atom {
+    /// An equal atom of its own. `NoMemory` where it could not be stored.
+    pub fn copy(&self, alloc: Global) -> Result<Atom, NoMemory>
+        ensures { IfOk result (λ copy. copy ≡ self.now) }
+    {
+        copy_atom(alloc, self)
+    }
+}
+
 #[cycle(copy)]
 pub(crate) fn copy_atom(alloc: Global, atom: &Atom) -> Result<Atom, NoMemory>
     ensures { IfOk result (λ copy. copy ≡ atom.now) }

@@ -55,8 +55,19 @@ pub struct FuncRow {
     pub result: Option<Type>,
     /// Whether the annotation is a `TypeGuard` or a `TypeIs`, so that a call gives a bool.
     pub guard: bool,
-    /// Whether a call gives something unknown: an async def, or a body with `yield`.
-    pub opaque: bool,
+    /// Whether it is an async def.
+    pub is_async: bool,
+    /// Whether `yield` stands in its body. What a call of either gives is unknown.
+    pub is_generator: bool,
+}
+
+/// The slots of the value that is made at a site.
+#[derive(Clone, Copy, PartialEq, Eq)]
+pub enum SiteSlots {
+    /// So many, each with a type of its own.
+    Filled(u32),
+    /// One, for all entries of a tuple of any length.
+    Repeated,
 }
 
 /// What the names of a text name.
@@ -97,8 +108,9 @@ pub trait Facts: Names {
     fn class_around(&self, node: NodeId) -> Option<ClassId>
         ensures { result ≡ (facts self.now).class_around node };
 
-    /// How many slots the value made at a site has: as many as a tuple has entries, two for a dict, one
-    /// for a list, a set and a generator, none for a lambda.
-    fn site_slots(&self, site: SiteId) -> u32
+    /// The slots of the value made at a site: as many as a tuple has entries, two for a dict, one for a
+    /// list, a set and a generator, none for a lambda, and one for all entries of a tuple of any length,
+    /// which a call of `tuple` makes.
+    fn site_slots(&self, site: SiteId) -> SiteSlots
         ensures { result ≡ (facts self.now).site_slots site };
 }

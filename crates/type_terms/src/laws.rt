@@ -1,6 +1,10 @@
 //! The laws of types, each proved once. These calls do nothing; their contracts are the laws.
 ghost use Rattle.std.specs.Prelude.{◌≡◌, [], ◌∷◌, ℕ, ℤ, List, ◌||◌, true, codes};
-ghost use Rattle.std.specs.List.{list_any};
+ghost use Rattle.std.specs.Bool.{Decides};
+ghost use Rattle.std.specs.Cmp.Lexicographic.{pointwise};
+ghost use Rattle.std.specs.List.{list_any, Contains};
+ghost use Rattle.std.specs.Ordering.{eq_by_cmp};
+ghost use Rattle.type_terms.specs.Order.{atom_cmp};
 ghost use Rattle.type_terms.specs.declared.atom.Atom.{Atom};
 ghost use Rattle.type_terms.specs.declared.atom.Atom.TheVariants as atom;
 ghost use Rattle.type_terms.specs.declared.literal.Literal.TheVariants as literal;
@@ -14,6 +18,13 @@ ghost use Rattle.type_terms.specs.Widen.{widened, widen};
 /// Two types with the same members are one type.
 pub fn types_are_their_members()
     ensures { (one other : List Atom) → IsType one → IsType other → ((a : Atom) → has one a ≡ has other a) → one ≡ other }
+{}
+
+/// Comparing the lists of members atom by atom decides whether two types are equal, and a type has an atom
+/// exactly where its list contains it.
+pub fn equal_types_are_equal_lists()
+    ensures lists { (one other : List Atom) → Decides (pointwise (eq_by_cmp atom_cmp) one other) (one ≡ other) }
+    ensures members { (type : List Atom) (a : Atom) → Decides (has type a) (Contains type a) }
 {}
 
 /// The type of a list of atoms has just these members, and the type of a type is itself.

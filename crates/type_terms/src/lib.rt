@@ -7,7 +7,6 @@
 #![tactic(auto)]
 
 pub mod atom;
-pub mod classes;
 mod copy;
 pub mod facts;
 pub mod laws;

@@ -1,5 +1,4 @@
 //! Literal values.
-use crate::classes::{BOOL, BYTES, INT, STR};
 use py_base::{ClassId, List, Text};
 
 /// A value that a type can have as a member of its own.

@@ -10,6 +10,7 @@ ghost use Rattle.type_terms.specs.View.{meaning_of};
 use crate::copy::no_memory;
 use crate::literal::Literal;
 use crate::view::View;
+use crate::words::first_few;
 use py_base::{ClassId, NoMemory, Text};
 use std::alloc::Global;
 
@@ -57,18 +58,6 @@ fn push_chars(out: &mut String, chars: &[char]) -> Result<(), NoMemory>
     Ok(())
 }
 
-/// The first few, and whether there are more.
-fn first_few<T>(all: &[T]) -> (&[T], bool)
-    ensures first { result.0.now ≡ take 50 all.now }
-    ensures more { result.1 ≡ nat_lt 50 (length all.now) }
-{
-    if all.len() <= MOST {
-        return (all, false);
-    }
-    let (first, _) = all.split_at(MOST);
-    (first, true)
-}
-
 fn push_dots(out: &mut String, more: bool) -> Result<(), NoMemory>
     ensures { OnOk result (string_bytes out.new ≡ string_bytes out.old ++ (if more then codes "..." else [])) }
 {
@@ -90,7 +79,7 @@ fn push_text(alloc: Global, out: &mut String, text: &str) -> Result<(), NoMemory
     ensures { OnOk result (string_bytes out.new ≡ string_bytes out.old ++ shortened char_text (chars text.now)) }
 {
     let all = characters(alloc, text)?;
-    let (first, more) = first_few(all.as_slice());
+    let (first, more) = first_few(all.as_slice(), MOST);
     push_chars(out, first)?;
     push_dots(out, more)
 }
@@ -141,7 +130,7 @@ fn push_bytes(out: &mut String, bytes: &[u8]) -> Result<(), NoMemory>
 fn push_bytes_literal(out: &mut String, bytes: &[u8]) -> Result<(), NoMemory>
     ensures { OnOk result (string_bytes out.new ≡ string_bytes out.old ++ shortened byte_text bytes.now) }
 {
-    let (first, more) = first_few(bytes);
+    let (first, more) = first_few(bytes, MOST);
     push_bytes(out, first)?;
     push_dots(out, more)
 }

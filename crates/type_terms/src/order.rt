@@ -1,14 +1,14 @@
 //! The order of atoms.
 ghost use Rattle.std.specs.Prelude.{◌≡◌, false, map};
+ghost use Rattle.type_terms.specs.Order as spec;
 ghost use Rattle.type_terms.specs.Order.{key, head, kind_in, rest_in, slots_key, members_key, keyed, atom_cmp, literal_class, literal_kind, literal_key};
 ghost use Rattle.type_terms.specs.SortKey.{key_cmp, listed};
 ghost use Rattle.std.specs.Cmp.{IsTotalOrder};
 ghost use Rattle.std.specs.FinSet.{IsAntisymmetric};
 
 use crate::atom::{Atom, Slots};
-use crate::classes::{BOOL, BYTES, INT, STR};
 use crate::literal::Literal;
-use py_base::ClassId;
+use py_base::{Builtin, ClassId, InnerTuple};
 use sqlite_items::Items;
 use std::cmp::Ordering;
 
@@ -18,10 +18,10 @@ impl Literal {
         ensures { result ≡ literal_class self.now }
     {
         match self {
-            Literal::Int(_) => INT,
-            Literal::Bool(_) => BOOL,
-            Literal::Str(_) => STR,
-            Literal::Bytes(_) => BYTES,
+            Literal::Int(_) => Builtin::Int.id(),
+            Literal::Bool(_) => Builtin::Bool.id(),
+            Literal::Str(_) => Builtin::Str.id(),
+            Literal::Bytes(_) => Builtin::Bytes.id(),
             Literal::Member(class, _) => *class,
         }
     }
@@ -55,36 +55,46 @@ impl Literal {
 }
 
 /// What decides between most atoms: the number of the kind, the number of the class, that of the
-/// node, the function, the row or the name, and whether a site is the inner one of two. A part that
-/// a kind lacks is 0.
+/// node, the function, the row or the name, and which inner tuple a site is. A part that a kind lacks
+/// is 0.
 #[derive(Clone, Copy, PartialEq, Eq, PartialOrd, Ord)]
 struct Head {
     kind: u8,
     class: ClassId,
     place: u32,
-    inner: bool,
+    inner: u64,
+}
+
+fn inner_number(inner: InnerTuple) -> u64
+    ensures { result ≡ spec.inner_number inner }
+{
+    match inner {
+        InnerTuple::None => 0,
+        InnerTuple::Pair => 1,
+        InnerTuple::Zip(slots) => slots as u64 + 2,
+    }
 }
 
 impl Head {
     fn of_class(kind: u8, class: ClassId) -> Head
-        ensures { result ≡ record { kind = kind; class = class; place = 0; inner = false } }
+        ensures { result ≡ record { kind = kind; class = class; place = 0; inner = 0 } }
     {
         Head {
             kind,
             class,
             place: 0,
-            inner: false,
+            inner: 0,
         }
     }
 
     fn of_number(kind: u8, place: u32) -> Head
-        ensures { result ≡ record { kind = kind; class = record { 0 = 0 }; place = place; inner = false } }
+        ensures { result ≡ record { kind = kind; class = record { 0 = 0 }; place = place; inner = 0 } }
     {
         Head {
             kind,
             class: ClassId(0),
             place,
-            inner: false,
+            inner: 0,
         }
     }
 }
@@ -102,7 +112,7 @@ impl Atom {
                 kind: 4,
                 class: site.class,
                 place: site.node.0,
-                inner: site.inner,
+                inner: inner_number(site.inner),
             },
             Atom::Class(class) => Head::of_class(5, *class),
             Atom::Func(func) => Head::of_number(6, func.0),

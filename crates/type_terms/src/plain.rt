@@ -1,5 +1,5 @@
 //! Types and facts that are at hand, as finite maps.
-use crate::facts::{Facts, FuncRow, Names};
+use crate::facts::{Facts, FuncRow, Names, SiteSlots};
 use crate::types::Type;
 use crate::view::{Types, View};
 use py_base::{ClassId, FuncId, Key, List, NameId, NodeId, SiteId, Stop, Text};
@@ -58,8 +58,8 @@ pub struct PlainFacts {
     pub other_func: FuncRow,
     /// The class of the innermost class statement around a node.
     pub around: BTreeMap<NodeId, ClassId>,
-    /// How many slots the values made at a site have, where they have some.
-    pub slots: BTreeMap<SiteId, u32>,
+    /// The slots of the value made at a site, where it has some.
+    pub slots: BTreeMap<SiteId, SiteSlots>,
 }
 
 impl Names for PlainFacts {
@@ -109,10 +109,10 @@ impl Facts for PlainFacts {
         self.around.get(&node).copied()
     }
 
-    fn site_slots(&self, site: SiteId) -> u32 {
+    fn site_slots(&self, site: SiteId) -> SiteSlots {
         match self.slots.get(&site) {
-            Some(count) => *count,
-            None => 0,
+            Some(slots) => *slots,
+            None => SiteSlots::Filled(0),
         }
     }
 }
@@ -186,7 +186,7 @@ impl Facts for PlainView {
         self.facts.class_around(node)
     }
 
-    fn site_slots(&self, site: SiteId) -> u32 {
+    fn site_slots(&self, site: SiteId) -> SiteSlots {
         self.facts.site_slots(site)
     }
 }

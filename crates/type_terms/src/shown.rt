@@ -4,13 +4,12 @@ ghost use Rattle.type_terms.specs.Text as text;
 ghost use Rattle.type_terms.specs.View.{meaning_of};
 
 use crate::atom::Atom;
-use crate::classes::{BOOL, BYTES, INT, STR};
 use crate::copy::{copy_atom, lost};
 use crate::literal::Literal;
 use crate::show::Shown;
 use crate::types::Type;
 use crate::view::View;
-use py_base::{ClassId, NoMemory};
+use py_base::{Builtin, ClassId, NoMemory};
 use std::alloc::Global;
 
 /// Whether a type has the member of an enum at a place.
@@ -106,10 +105,14 @@ fn literal_shown<V: View>(
     ensures looked { text.IsLooked (meaning_of (V.assignment view.now) (V.names view.now) (V.facts view.now) (V.view view.now)) ty.now looked.new }
 {
     match value {
-        Literal::Int(_) => beside(ty, INT),
-        Literal::Bool(value) => in_whole(has_bool(ty, false) && has_bool(ty, true), BOOL, !*value),
-        Literal::Str(_) => beside(ty, STR),
-        Literal::Bytes(_) => beside(ty, BYTES),
+        Literal::Int(_) => beside(ty, Builtin::Int.id()),
+        Literal::Bool(value) => in_whole(
+            has_bool(ty, false) && has_bool(ty, true),
+            Builtin::Bool.id(),
+            !*value,
+        ),
+        Literal::Str(_) => beside(ty, Builtin::Str.id()),
+        Literal::Bytes(_) => beside(ty, Builtin::Bytes.id()),
         Literal::Member(class, place) => {
             let whole = is_whole(ty, *class, looked, view);
             in_whole(whole, *class, *place == 0)

@@ -1,5 +1,5 @@
 //! The text of a type.
-ghost use Rattle.std.specs.Prelude.{◌≡◌, ◌++◌, ◌∷◌, [], IfOk, codes, map, if◌then◌else◌};
+ghost use Rattle.std.specs.Prelude.{◌≡◌, ◌<◌, ◌^◌, ◌++◌, ◌∷◌, [], IfOk, codes, map, if◌then◌else◌};
 ghost use Rattle.std.specs.List.{AllByRecursion, flat_map};
 ghost use Rattle.type_terms.specs.Asked.{AsksSome, Cancels};
 ghost use Rattle.type_terms.specs.Text as spec;
@@ -43,19 +43,20 @@ fn piece_type<V: View>(alloc: Global, piece: &Piece, view: &mut V) -> Result<Typ
     }
 }
 
-/// What is written for a member of a type.
+/// What is written for a member of a type, with so many levels below it.
 fn member_pieces<V: View>(
     alloc: Global,
+    levels: u32,
     ty: &Type,
     member: &Atom,
     view: &V,
 ) -> Result<Items<Piece>, NoMemory>
-    ensures { IfOk result (λ pieces. pieces ≡ spec.member_pieces (meaning_of (V.assignment view.now) (V.names view.now) (V.facts view.now) (V.view view.now)) ty.now member.now) }
+    ensures { IfOk result (λ pieces. pieces ≡ spec.member_pieces (meaning_of (V.assignment view.now) (V.names view.now) (V.facts view.now) (V.view view.now)) levels ty.now member.now) }
 {
     match shown_as(ty, member, &mut None, view) {
         Shown::Dropped => Ok(Items::new(alloc)),
         Shown::Whole(class) => said(alloc, Text::from_str(alloc, view.class_word(class))?),
-        Shown::Itself => atom_pieces(alloc, member, view),
+        Shown::Itself => atom_pieces(alloc, params_limit(levels), member, view),
     }
 }
 
@@ -68,6 +69,14 @@ fn limit(levels: u32) -> usize
     } else {
         DEEPER
     }
+}
+
+/// How many parameters of a function are written, with so many levels below it.
+fn params_limit(levels: u32) -> usize
+    ensures value { result ≡ spec.params_limit levels }
+    ensures few { result < 2 ^ 31 }
+{
+    if levels == LEVELS - 1 { 64 } else { 16 }
 }
 
 /// The text of the type that a piece stands for, with so many levels from it on.
@@ -145,13 +154,13 @@ fn member_text<V: View>(
     member: &Atom,
     view: &mut V,
 ) -> Result<Text, Stop>
-    ensures value { IfOk result (λ text. text ≡ spec.member_text (meaning_of (V.assignment view.old) (V.names view.old) (V.facts view.old) (V.view view.old)) (spec.text (meaning_of (V.assignment view.old) (V.names view.old) (V.facts view.old) (V.view view.old)) levels) ty.now member.now) }
+    ensures value { IfOk result (λ text. text ≡ spec.member_text (meaning_of (V.assignment view.old) (V.names view.old) (V.facts view.old) (V.view view.old)) levels (spec.text (meaning_of (V.assignment view.old) (V.names view.old) (V.facts view.old) (V.view view.old)) levels) ty.now member.now) }
     ensures same { (meaning_of (V.assignment view.new) (V.names view.new) (V.facts view.new) (V.view view.new)) ≡ (meaning_of (V.assignment view.old) (V.names view.old) (V.facts view.old) (V.view view.old)) }
     ensures stays { V.stays view.old view.new }
     ensures asked { AsksSome (V.asked view.old) (spec.member_keys (meaning_of (V.assignment view.old) (V.names view.old) (V.facts view.old) (V.view view.old)) levels (spec.text_keys (meaning_of (V.assignment view.old) (V.names view.old) (V.facts view.old) (V.view view.old)) levels) ty.now member.now) (V.asked view.new) }
     ensures cancels { Cancels (V.seen view.old) (V.seen view.new) result }
 {
-    let pieces = member_pieces(alloc, ty, member, view)?;
+    let pieces = member_pieces(alloc, levels, ty, member, view)?;
     pieces_text(alloc, levels, pieces.as_slice(), view)
 }
 
@@ -164,7 +173,7 @@ fn member_texts<V: View>(
     members: &[Atom],
     view: &mut V,
 ) -> Result<Items<Text>, Stop>
-    ensures value { IfOk result (λ texts. texts ≡ spec.distinct (map (spec.member_text (meaning_of (V.assignment view.old) (V.names view.old) (V.facts view.old) (V.view view.old)) (spec.text (meaning_of (V.assignment view.old) (V.names view.old) (V.facts view.old) (V.view view.old)) levels) ty.now) members.now)) }
+    ensures value { IfOk result (λ texts. texts ≡ spec.distinct (map (spec.member_text (meaning_of (V.assignment view.old) (V.names view.old) (V.facts view.old) (V.view view.old)) levels (spec.text (meaning_of (V.assignment view.old) (V.names view.old) (V.facts view.old) (V.view view.old)) levels) ty.now) members.now)) }
     ensures same { (meaning_of (V.assignment view.new) (V.names view.new) (V.facts view.new) (V.view view.new)) ≡ (meaning_of (V.assignment view.old) (V.names view.old) (V.facts view.old) (V.view view.old)) }
     ensures stays { V.stays view.old view.new }
     ensures asked { AsksSome (V.asked view.old) (flat_map (spec.member_keys (meaning_of (V.assignment view.old) (V.names view.old) (V.facts view.old) (V.view view.old)) levels (spec.text_keys (meaning_of (V.assignment view.old) (V.names view.old) (V.facts view.old) (V.view view.old)) levels) ty.now) members.now) (V.asked view.new) }
@@ -221,7 +230,8 @@ fn all_texts(alloc: Global, texts: Items<Text>, more: bool) -> Result<Text, NoMe
 }
 
 /// The text of a type as diagnostics and hovers print it: at most 4 levels, 16 members at the outermost and
-/// 4 at each deeper one, each text once. The view keeps what its own calls keep. `Cancelled` comes only where
+/// 4 at each deeper one, each text once; at most 16 slots, and 64 parameters at the outermost level and 16
+/// at each deeper one. The view keeps what its own calls keep. `Cancelled` comes only where
 /// the count of seen raises of the view rose in this call.
 pub fn type_text<V: View>(alloc: Global, ty: &Type, view: &mut V) -> Result<Text, Stop>
     ensures value { IfOk result (λ text. text ≡ spec.text (meaning_of (V.assignment view.old) (V.names view.old) (V.facts view.old) (V.view view.old)) 4 ty.now) }

@@ -5,12 +5,11 @@ ghost use Rattle.type_terms.specs.Types.{both_bools};
 ghost use Rattle.type_terms.specs.Widen as spec;
 
 use crate::atom::Atom;
-use crate::classes::{BYTES, INT, STR};
 use crate::copy::{copy_atom, lost};
 use crate::facts::Facts;
 use crate::literal::Literal;
 use crate::types::Type;
-use py_base::{ClassId, NoMemory};
+use py_base::{Builtin, ClassId, NoMemory};
 use std::alloc::Global;
 
 fn push(atoms: &mut Vec<Atom>, atom: Atom) -> Result<(), NoMemory>
@@ -70,10 +69,10 @@ fn push_literal<F: Facts>(
     ensures last { OnOk result (spec.HasLast (F.names facts.now) last.new atoms.new.items) }
 {
     match value {
-        Literal::Int(_) => push(atoms, Atom::Inst(INT)),
+        Literal::Int(_) => push(atoms, Atom::Inst(Builtin::Int.id())),
         Literal::Bool(_) => push_bools(atoms),
-        Literal::Str(_) => push(atoms, Atom::Inst(STR)),
-        Literal::Bytes(_) => push(atoms, Atom::Inst(BYTES)),
+        Literal::Str(_) => push(atoms, Atom::Inst(Builtin::Str.id())),
+        Literal::Bytes(_) => push(atoms, Atom::Inst(Builtin::Bytes.id())),
         Literal::Member(class, _) => push_enum(atoms, last, *class, facts),
     }
 }

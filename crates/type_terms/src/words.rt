@@ -1,5 +1,5 @@
 //! Texts put together from others.
-ghost use Rattle.std.specs.Prelude.{◌≡◌, ◌++◌, [], IfOk, OnOk, string_bytes, codes, if◌then◌else◌, IsTrue};
+ghost use Rattle.std.specs.Prelude.{◌≡◌, ◌++◌, [], take, length, nat_lt, IfOk, OnOk, string_bytes, codes, if◌then◌else◌, IsTrue};
 ghost use Rattle.std.specs.List.{flat_map, list_any};
 ghost use Rattle.std.specs.Str.{bytes_eq};
 ghost use Rattle.type_terms.specs.Text.{barred, put_last};
@@ -17,6 +17,18 @@ pub(crate) fn three(alloc: Global, first: &str, second: &str, third: &str) -> Re
     all.push_str(second).map_err(no_memory)?;
     all.push_str(third).map_err(no_memory)?;
     Ok(Text::from_string(all))
+}
+
+/// The first so many, and whether there are more.
+pub(crate) fn first_few<T>(all: &[T], most: usize) -> (&[T], bool)
+    ensures first { result.0.now ≡ take most all.now }
+    ensures more { result.1 ≡ nat_lt most (length all.now) }
+{
+    if all.len() <= most {
+        return (all, false);
+    }
+    let (first, _) = all.split_at(most);
+    (first, true)
 }
 
 /// A text behind what is written.

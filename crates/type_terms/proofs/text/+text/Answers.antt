@@ -48,7 +48,7 @@ member_texts-loop-member-preserved g t c =
     record {
       same = c.member_text.ensures.same ∙ now.invariant.same;
       written = distinct_more xs now.member-index x _ _ now.invariant.same c.loop-member-test.true c.member-item.is
-          (λ m. member_text m (text m levels) ty) _ _ c.in_ok-text.text now.invariant.written c.in_ok-text.ensures.value c.in_ok-push_distinct.ensures;
+          (λ m. member_text m levels (text m levels) ty) _ _ c.in_ok-text.text now.invariant.written c.in_ok-text.ensures.value c.in_ok-push_distinct.ensures;
       asked = asked_more xs now.member-index x _ _ now.invariant.same c.loop-member-test.true c.member-item.is
           (λ m. member_keys m levels (text_keys m levels) ty) _ _ _ now.invariant.asked c.member_text.ensures.asked;
       stays = g.V.Types.keeps_on _ _ _ now.invariant.stays c.member_text.ensures.stays;
@@ -66,8 +66,8 @@ member_texts-returns-in_err-push_distinct-clause-asked g t c =
 pub member_text-pieces_text-requires : goal.member_text-pieces_text-requires
 member_text-pieces_text-requires g t c =
     let m = meaning_of (g.V.Types.assignment c.args.view.now) (g.V.Names.names c.args.view.now) (g.V.Facts.facts c.args.view.now) (g.V.View.view c.args.view.now) in
-    let is : c.as_slice.result.now ≡ member_pieces m c.args.ty.now c.args.member.now = search rules in
-    let askable : AllByRecursion (IsAskable m) c.as_slice.result.now = subst (AllByRecursion (IsAskable m)) (sym is) (member_askable m c.args.ty.now c.args.member.now) in
+    let is : c.as_slice.result.now ≡ member_pieces m c.args.levels c.args.ty.now c.args.member.now = search rules in
+    let askable : AllByRecursion (IsAskable m) c.as_slice.result.now = subst (AllByRecursion (IsAskable m)) (sym is) (member_askable m c.args.levels c.args.ty.now c.args.member.now) in
     search rules
 
 pub typed_text-returns-clause-asked : goal.typed_text-returns-clause-asked

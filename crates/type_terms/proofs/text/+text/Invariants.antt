@@ -46,7 +46,7 @@ invariant-member_texts-loop-member g l =
     let m = meaning_of (g.V.Types.assignment l.initial.view) (g.V.Names.names l.initial.view) (g.V.Facts.facts l.initial.view) (g.V.View.view l.initial.view) in
     record {
       same : meaning_of (g.V.Types.assignment l.view) (g.V.Names.names l.view) (g.V.Facts.facts l.view) (g.V.View.view l.view) ≡ m;
-      written : l.texts ≡ distinct (map (member_text m (text m l.levels) l.ty) (take l.member-index l.members));
+      written : l.texts ≡ distinct (map (member_text m l.levels (text m l.levels) l.ty) (take l.member-index l.members));
       asked : AsksSome (g.V.Types.asked l.initial.view) (flat_map (member_keys m l.levels (text_keys m l.levels) l.ty) (take l.member-index l.members)) (g.V.Types.asked l.view);
       stays : g.V.Types.stays l.initial.view l.view;
       later : g.V.Types.seen l.initial.view ≤ g.V.Types.seen l.view;
