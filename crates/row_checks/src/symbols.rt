@@ -132,8 +132,8 @@ pub fn cast_facts(alloc: Global, source: &str) -> Result<Vec<String>, NoMemory> 
     let references = node_references(alloc, &named.tree, &named.scopes)?;
     let marks = casts(alloc, &named.tree, &named.scopes, &references)?;
     let mut facts = Vec::new(alloc);
-    for (node, is_cast) in marks.as_slice().iter().enumerate() {
-        if *is_cast {
+    for node in 0..named.tree.node_count() {
+        if marks.get(node).copied().unwrap_or(false) {
             facts.push(node_fact(alloc, &named, NodeId(node as u32))?)?;
         }
     }
