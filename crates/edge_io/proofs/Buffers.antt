@@ -1,7 +1,7 @@
 -- The bytes that wait in a buffer, and the run of them that goes to a line.
-use Rattle.std.proofs.Common.{◌≡◌, ◌∙◌, ◌+◌, ◌-◌, ◌≤◌, ℕ, Bool, true, false, not, cond, Some, None, List, ◌∷◌, ◌++◌, length, take, drop, ltb, refl, ap, sym, arith}
+use Rattle.std.proofs.Common.{◌≡◌, ◌∙◌, ◌+◌, ◌-◌, ◌≤◌, ℕ, Bool, true, false, not, cond, Some, None, List, ◌∷◌, ◌++◌, [], length, take, drop, ltb, refl, ap, sym, arith}
 use Rattle.std.proofs.lemmas.Bool.{ltb-true, ltb-false}
-use Rattle.std.proofs.lemmas.List.{append-nil, drop-take, drop_all, take_all}
+use Rattle.std.proofs.lemmas.List.{append-nil, drop-take, drop_all, take_all, length-drop, length-take-le}
 use Rattle.std.proofs.lemmas.List.Sums.{prefix_len-le-length}
 use Rattle.std.specs.Int.{from_bool}
 use Rattle.std.specs.List.{position, position_or_len}
@@ -52,3 +52,11 @@ moves_run false line longer old new waiting run skip first some was joined skipp
   rest = λ _. is ∙ drop_all skip waiting (omega (arith, ltb-false run (length waiting) some));
   kept = kept;
 }
+
+-- where nothing waits, the buffer is used up
+pub nothing_waits : (buf : List ℕ) (at len : ℕ) → at ≤ len → len ≤ length buf → drop at (take len buf) ≡ [] → at ≡ len
+nothing_waits buf at len ordered fits none =
+    let empty : length (drop at (take len buf)) ≡ 0 = ap length none in omega (arith, length-drop at (take len buf), length-take-le len buf fits)
+
+pub used_up : (buf : List ℕ) (at len : ℕ) → at ≡ len → len ≤ length buf → drop at (take len buf) ≡ []
+used_up buf at len same fits = drop_all at (take len buf) (omega (arith, length-take-le len buf fits))

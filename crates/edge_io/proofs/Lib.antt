@@ -1,3 +1,4 @@
+pub mod Cuts
 pub mod Streams
 pub mod Lines
 pub mod Buffers

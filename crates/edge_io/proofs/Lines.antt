@@ -1,11 +1,10 @@
 -- Laws of lines.
-use Rattle.std.proofs.Common.{◌≡◌, ◌≢◌, ◌∙◌, ◌+◌, ◌<◌, ℕ, Bool, true, false, cond, ◌||◌, List, [], ◌∷◌, ◌++◌, length, get_or, take, drop, refl, ap, sym, append_assoc}
+use Rattle.std.proofs.Common.{◌≡◌, ◌≢◌, ◌∙◌, ◌+◌, ◌<◌, ℕ, Bool, true, false, cond, ◌||◌, List, [], ◌∷◌, ◌++◌, length, get_or, take, drop, refl, ap, sym}
 use Rattle.std.proofs.Math.Numerals.{one-add}
 use Rattle.std.proofs.lemmas.Bool.{eqb-true}
 use Rattle.std.proofs.lemmas.List.Sums.{split_at_first, passes_at_first}
-use Rattle.std.specs.Prelude.{flat_map}
-use Rattle.std.specs.List.{list_any, position_or_len, slice_split, onto_first, AllByRecursion}
-use Rattle.edge_io.specs.Line.{is_lf, IsLine, ended, last_line, lines_in, lines_of}
+use Rattle.std.specs.List.{list_any, position_or_len, slice_split, onto_first}
+use Rattle.edge_io.specs.Line.{is_lf, IsLine, last_line, lines_in, lines_of}
 
 -- an `or` that is false
 both_false : (a b : Bool) → (a || b) ≡ false → (a ≡ false) × (b ≡ false)
@@ -68,17 +67,27 @@ pub lines_of-last : (rest : List ℕ) → IsLine rest → rest ≢ [] → lines_
 lines_of-last [] plain some = absurd (some refl)
 lines_of-last (x ∷ xs) plain some = lines_of-rest true (x ∷ xs) plain
 
--- the lines that an LF ended are the first, and what follows has the others
-pub lines_of-ended : (at_end : Bool) (lines : List (List ℕ)) (rest : List ℕ) → AllByRecursion IsLine lines → lines_of at_end (flat_map ended lines ++ rest) ≡ lines ++ lines_of at_end rest
-lines_of-ended at_end [] rest each = refl
-lines_of-ended at_end (line ∷ lines) rest each =
-    let regroup : (ended line ++ flat_map ended lines) ++ rest ≡ line ++ 10 ∷ (flat_map ended lines ++ rest) = append_assoc (ended line) (flat_map ended lines) rest ∙ append_assoc line (10 ∷ []) (flat_map ended lines ++ rest) in
-    ap (lines_of at_end) regroup ∙ (lines_of-line at_end line (flat_map ended lines ++ rest) each.0 ∙ ap (λ ls. line ∷ ls) (lines_of-ended at_end lines rest each.1))
+-- a part that an LF ended is a line
+ended_first : (parts : List (List ℕ)) (x : ℕ) (part : List ℕ) → lines_in false ((x ∷ part) ∷ parts) ≡ [] → lines_in false (part ∷ parts) ≡ []
+ended_first [] x [] none = refl
+ended_first [] x (y ∷ part) none = refl
+ended_first (next ∷ parts) x part none = cc
 
--- one more line behind others
-pub lines_more : (lines : List (List ℕ)) (line : List ℕ) → AllByRecursion IsLine lines → IsLine line → AllByRecursion IsLine (lines ++ line ∷ [])
-lines_more [] line each is = (is, tt)
-lines_more (x ∷ xs) line each is = (each.0, lines_more xs line each.1 is)
+-- bytes that have no whole line have no LF
+pub plain_if_none : (bytes : List ℕ) → lines_of false bytes ≡ [] → IsLine bytes
+plain_if_none [] none = refl
+plain_if_none (x ∷ xs) none =
+    let (first, others, is) = slice_split-some xs in
+    go (is_lf x) refl first others is (none_by (is_lf x) refl none) (λ h. plain_if_none xs h)
+  where
+    none_by : (b : Bool) → is_lf x ≡ b → lines_of false (x ∷ xs) ≡ [] → lines_in false (cond b ([] ∷ slice_split is_lf xs) (onto_first x (slice_split is_lf xs))) ≡ []
+    none_by b e h = rw (← e) h
+
+    go : (b : Bool) → is_lf x ≡ b → (first : List ℕ) (others : List (List ℕ)) → slice_split is_lf xs ≡ first ∷ others → lines_in false (cond b ([] ∷ slice_split is_lf xs) (onto_first x (slice_split is_lf xs))) ≡ [] → (lines_of false xs ≡ [] → IsLine xs) → IsLine (x ∷ xs)
+    go true e first others is h plain = (let k : lines_in false ([] ∷ first ∷ others) ≡ [] = rw is at h in cc)
+    go false e first others is h plain =
+        let k : lines_in false ((x ∷ first) ∷ others) ≡ [] = rw is at h in
+        rw e (plain (ap (lines_in false) is ∙ ended_first others x first k))
 
 run_plain_from : (b : Bool) (x : ℕ) (xs : List ℕ) → is_lf x ≡ b → IsLine (take (position_or_len is_lf xs) xs) → IsLine (take (position_or_len is_lf (x ∷ xs)) (x ∷ xs))
 run_plain_from true x xs is plain = rw is refl

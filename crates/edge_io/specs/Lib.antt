@@ -4,4 +4,4 @@ pub mod Memory
 pub mod Standard
 pub mod Reading
 pub mod Buffer
-pub mod Reader
+pub mod Cutting

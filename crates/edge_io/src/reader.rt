@@ -1,10 +1,11 @@
 //! Lines of a source.
-ghost use Rattle.std.specs.Prelude.{◌≡◌, ◌≢◌, ◌⊎◌, ◌<◌, ◌≤◌, [], true, false, length, take, IfOk, OnOk, OnErr, IfSome};
+ghost use Rattle.std.specs.Prelude.{◌≡◌, ◌≢◌, ◌⊎◌, ◌<◌, ◌≤◌, [], true, false, length, take, IfOk, OnOk, OnErr};
 ghost use Rattle.std.specs.List.{position, position_or_len};
 ghost use Rattle.edge_io.specs.Stream.{before, is_end, IsUsedUp};
 ghost use Rattle.edge_io.specs.Line.{is_lf};
 ghost use Rattle.py_base.specs.Causes.{HasCause, Rose};
 
+use crate::cutter::Cutter;
 use crate::line::Line;
 use crate::source::{Failed, Source};
 use py_base::NoMemory;
@@ -29,7 +30,8 @@ pub enum LineFault {
     Memory,
 }
 
-/// Takes bytes of a source and hands them out as lines. A contract sees it as a `Reading`.
+/// Takes bytes of a source and hands them out as lines. A line is the bytes up to an LF, which isn't
+/// part of it; a last one without LF counts if it has a byte. A contract sees it as a `Reading`.
 #[derive(Debug, Drop)]
 pub struct LineReader {
     alloc: Global,
@@ -85,90 +87,35 @@ fn take_some<S: Source>(source: &mut S, buf: &mut [u8], room: usize) -> Result<u
 }
 
 impl LineReader {
-    ghost use Rattle.edge_io.specs.Reader.{Gives, Answers, fault_of, IsReady, IsFull};
-    ghost use Rattle.edge_io.specs.Buffer.{IsKept, Moves, Fills};
+    ghost use Rattle.edge_io.specs.Cutting.{Answers, IsReady, IsFull, IsNew};
+    ghost use Rattle.edge_io.specs.Buffer.{Moves, Gives, Fills};
+    ghost use Rattle.edge_io.specs.Line.{lines_of};
 
     /// A reader that has taken nothing and will take at most `most` bytes in all.
     pub fn new(alloc: Global, most: u64) -> Result<LineReader, NoMemory>
-        ensures waiting { IfOk result (λ reader. reader.waiting ≡ []) }
-        ensures taken { IfOk result (λ reader. reader.taken ≡ 0) }
-        ensures most { IfOk result (λ reader. reader.most ≡ most) }
-        ensures at_end { IfOk result (λ reader. reader.at_end ≡ false) }
-        ensures fault { IfOk result (λ reader. reader.fault ≡ None) }
+        ensures { IfOk result (λ reader. IsNew reader most) }
     {
-        match vec![in alloc; 0; BUFFER] {
-            Ok(buf) => Ok(LineReader {
-                alloc,
-                buf,
-                at: 0,
-                len: 0,
-                taken: 0,
-                most,
-                at_end: false,
-                fault: None,
-            }),
-            Err(_) => Err(NoMemory),
-        }
-    }
-
-    /// How many bytes were taken in all.
-    pub fn taken(&self) -> u64
-        ensures { result ≡ self.now.taken }
-    {
-        self.taken
-    }
-
-    /// The next line, or `None` behind the last one. A line is the bytes up to an LF, which isn't
-    /// part of it; a last one without LF counts if it has a byte. It takes from the source only
-    /// where no whole line waits, at most 4,096 bytes a call and `most` in all. `ReadFault` comes
-    /// where the source failed; `TooLong` where `most` bytes were taken, the lines that end in them
-    /// were handed out and the end wasn't met; `Memory` where a line could not be stored. After a
-    /// fault it answers the same fault.
-    pub fn next_line<S: Source>(&mut self, source: &mut S) -> Result<Option<Line>, LineFault>
-        // Without a fault so far.
-        ensures answer { self.old.fault ≡ None → Answers result self.old self.new (S.left source.old) (S.left source.new) }
-        ensures full { self.old.fault ≡ None → IsFull self.old → (result ≡ Err LineFault.TooLong) ⊎ (result ≡ Err LineFault.Memory) }
-        ensures over { self.old.fault ≡ None → self.old.at_end ≡ true → self.old.waiting ≡ [] → result ≡ Ok None }
-
-        // With one.
-        ensures stuck { IfSome self.old.fault (λ fault. (result ≡ Err fault) × (self.new ≡ self.old) × (source.new ≡ source.old)) }
-
-        // The state behind each answer.
-        ensures fault { self.new.fault ≡ fault_of result }
-        ensures within { self.new.taken ≤ self.new.most }
-        ensures ready { IsReady self.old → source.new ≡ source.old }
-
-        // The end of the input.
-        ensures ends { ((source.new ≡ source.old) × (self.new.at_end ≡ self.old.at_end)) ⊎ (S.ended source.new ≡ self.new.at_end) }
-        ensures used_up { (self.old.at_end ≡ true → IsUsedUp (S.left source.old)) → self.new.at_end ≡ true → IsUsedUp (S.left source.new) }
-
-        // Faults of the source.
-        ensures later { S.faults source.old ≤ S.faults source.new }
-        ensures cause { result ≡ Err LineFault.ReadFault → (self.old.fault ≡ Some LineFault.ReadFault) ⊎ Rose (S.faults source.old) (S.faults source.new) }
-        ensures quiet { result ≢ Err LineFault.ReadFault → S.faults source.new ≡ S.faults source.old }
-    {
-        if let Some(fault) = self.fault {
-            return Err(fault);
-        }
-        if self.at_end && self.at == self.len {
-            return Ok(None);
-        }
-        match self.read_line(source) {
-            Ok(line) => Ok(line),
-            Err(fault) => {
-                self.fault = Some(fault);
-                Err(fault)
-            }
-        }
+        let buf = vec![in alloc; 0; BUFFER]?;
+        Ok(LineReader {
+            alloc,
+            buf,
+            at: 0,
+            len: 0,
+            taken: 0,
+            most,
+            at_end: false,
+            fault: None,
+        })
     }
 
     // The next line of a reader without a fault.
     fn read_line<S: Source>(&mut self, source: &mut S) -> Result<Option<Line>, LineFault>
-        ensures answer { Answers result self.old self.new (S.left source.old) (S.left source.new) }
-        ensures full { IsFull self.old → (result ≡ Err LineFault.TooLong) ⊎ (result ≡ Err LineFault.Memory) }
+        ensures answer { Answers lines_of result self.old self.new (S.left source.old) (S.left source.new) }
+        ensures full { IsFull lines_of self.old → (result ≡ Err LineFault.TooLong) ⊎ (result ≡ Err LineFault.Memory) }
         ensures fault { self.new.fault ≡ self.old.fault }
+        ensures most { self.new.most ≡ self.old.most }
         ensures within { self.new.taken ≤ self.new.most }
-        ensures ready { IsReady self.old → source.new ≡ source.old }
+        ensures ready { IsReady lines_of self.old → source.new ≡ source.old }
         ensures ends { ((source.new ≡ source.old) × (self.new.at_end ≡ self.old.at_end)) ⊎ (S.ended source.new ≡ self.new.at_end) }
         ensures used_up { (self.old.at_end ≡ true → IsUsedUp (S.left source.old)) → self.new.at_end ≡ true → IsUsedUp (S.left source.new) }
         ensures later { S.faults source.old ≤ S.faults source.new }
@@ -214,7 +161,7 @@ impl LineReader {
     // Takes bytes into the empty buffer. `false` is the end of the input.
     fn fill<S: Source>(&mut self, source: &mut S) -> Result<bool, LineFault>
         requires { self.old.waiting ≡ [] }
-        ensures gives { Gives [] self.old self.new (S.left source.old) (S.left source.new) }
+        ensures gives { Gives self.old self.new (S.left source.old) (S.left source.new) }
         ensures fills { Fills result self.old self.new }
         ensures full { self.old.taken ≡ self.old.most → self.old.at_end ≡ false → result ≡ Err LineFault.TooLong }
         ensures fault { self.new.fault ≡ self.old.fault }
@@ -243,6 +190,35 @@ impl LineReader {
                 Ok(count > 0)
             }
             Err(Failed) => Err(LineFault::ReadFault),
+        }
+    }
+}
+
+/// Its pieces are the lines of the bytes. It takes at most 4,096 bytes from the source at a time.
+impl Cutter for LineReader {
+    ghost use Rattle.edge_io.specs.Line.{lines_of};
+
+    ghost pieces = { lines_of };
+
+    ghost reading = { λ reader. reader };
+
+    fn taken(&self) -> u64 {
+        self.taken
+    }
+
+    fn next_line<S: Source>(&mut self, source: &mut S) -> Result<Option<Line>, LineFault> {
+        if let Some(fault) = self.fault {
+            return Err(fault);
+        }
+        if self.at_end && self.at == self.len {
+            return Ok(None);
+        }
+        match self.read_line(source) {
+            Ok(line) => Ok(line),
+            Err(fault) => {
+                self.fault = Some(fault);
+                Err(fault)
+            }
         }
     }
 }

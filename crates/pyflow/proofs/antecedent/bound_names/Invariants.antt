@@ -1,8 +1,0 @@
-use Rattle.std.proofs.Common.{◌≡◌, ℕ, List, Some, None, if◌then◌else◌, take}
-use Rattle.pyflow.specs.Typing.{is_bound_in}
-use Rattle.pyflow.specs.Antecedents.{entry_at}
-use Rattle.pyflow.proofs.antecedent.bound_names.Given as goal
-
-abbrev pub invariant-loop-form : goal.invariant-loop-form
-invariant-loop-form l =
-    (name : List ℕ) → entry_at l.names name ≡ (if is_bound_in (take l.form-index l.forms) name then Some None else None)

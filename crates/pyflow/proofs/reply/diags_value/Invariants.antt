@@ -1,7 +1,0 @@
-use Rattle.std.proofs.Common.{◌≡◌, map, take}
-use Rattle.serde_json.specs.View.{view}
-use Rattle.pyflow.specs.Reply.{diag_data}
-use Rattle.pyflow.proofs.reply.diags_value.Given as goal
-
-abbrev pub invariant-loop-diag : goal.invariant-loop-diag
-invariant-loop-diag l = map view l.values.items ≡ map diag_data (take l.diag-index l.list)
