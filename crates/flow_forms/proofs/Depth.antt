@@ -3,9 +3,9 @@ use Rattle.std.proofs.Common.{◌≡◌, ℕ, zero, suc, ◌-◌, ◌+◌, List,
 use Rattle.std.proofs.lemmas.List.{drop_all}
 use Rattle.py_base.specs.declared.ids.NodeId.{NodeId}
 use Rattle.py_base.specs.declared.node.Node.{Node}
-use Rattle.flow_points.specs.declared.form.Form.{Form}
+use Rattle.flow_rows.specs.declared.form.Form.{Form}
 use Rattle.py_base.specs.Tree.{Arena}
-use Rattle.flow_forms.specs.Clauses.{kind_at, parts_at}
+use Rattle.py_base.specs.Nodes.{kind_at, parts_at}
 use Rattle.flow_forms.specs.Patterns.{gather, captured, inner, captures, evaluated, inner_values, values}
 
 pub captures_below : (left : ℕ) (a : Arena) (n : NodeId) → (left ≡ 0 → ⊥)

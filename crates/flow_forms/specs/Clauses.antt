@@ -1,26 +1,12 @@
 -- The clauses of a compound statement, each a header and its body, and which parts of a node run (Python 3.12 language reference,
 -- section 8: the body of a header is the simple statements in its line, or the block behind it).
-use Rattle.std.specs.Prelude.{ℕ, ◌≡◌, ◌==◌, Bool, true, false, List, [], ◌∷◌, ◌++◌, Option, None, Some, slice_get, filter, if◌then◌else◌, not}
+use Rattle.std.specs.Prelude.{Bool, true, false, List, [], ◌∷◌, ◌++◌, Option, None, Some, filter, if◌then◌else◌, not}
 use Rattle.py_base.specs.declared.ids.NodeId.{NodeId}
 use Rattle.py_base.specs.declared.node.Node.{Node}
 use Rattle.py_base.specs.declared.node.NodeKind.{NodeKind}
 use Rattle.py_base.specs.declared.node.NodeKind.TheVariants as kinds
+use Rattle.py_base.specs.Nodes.{kind_at, parts_at}
 use Rattle.flow_forms.specs.declared.clauses.Clause.{Clause}
-
-abbrev pub kind_or : Option Node → NodeKind
-kind_or None = kinds.Fault
-kind_or (Some node) = node.kind
-
-abbrev pub parts_or : Option Node → List NodeId
-parts_or None = []
-parts_or (Some node) = node.parts
-
--- the kind and the parts of a node; a number that is no node's counts as a faulty line
-abbrev pub kind_at : List Node → NodeId → NodeKind
-kind_at nodes n = kind_or (slice_get nodes n.0)
-
-abbrev pub parts_at : List Node → NodeId → List NodeId
-parts_at nodes n = parts_or (slice_get nodes n.0)
 
 -- what stands among parts and doesn't run: commas, operators and colons, marks among parameters, annotations of results, what an
 -- import names as its source, the suite of a header, which is read with its header, and faulty lines

@@ -6,15 +6,16 @@ use Rattle.py_base.specs.declared.node.Node.{Node}
 use Rattle.py_base.specs.declared.node.NodeKind.{NodeKind}
 use Rattle.py_base.specs.declared.node.NodeKind.TheVariants as kinds
 use Rattle.py_base.specs.Tree.{Arena}
-use Rattle.flow_points.specs.declared.route.Channel.TheVariants as channels
-use Rattle.flow_points.specs.declared.form.Form.{Form}
-use Rattle.flow_points.specs.declared.form.Form.TheVariants as forms
-use Rattle.flow_points.specs.declared.form.Branch.{Branch}
-use Rattle.flow_points.specs.declared.form.Handler.{Handler}
-use Rattle.flow_points.specs.declared.form.ComprehensionClause.{ComprehensionClause}
-use Rattle.flow_points.specs.declared.form.ComprehensionClause.TheVariants as comprehension_clauses
+use Rattle.flow_rows.specs.declared.route.Channel.TheVariants as channels
+use Rattle.flow_rows.specs.declared.form.Form.{Form}
+use Rattle.flow_rows.specs.declared.form.Form.TheVariants as forms
+use Rattle.flow_rows.specs.declared.form.Branch.{Branch}
+use Rattle.flow_rows.specs.declared.form.Handler.{Handler}
+use Rattle.flow_rows.specs.declared.form.ComprehensionClause.{ComprehensionClause}
+use Rattle.flow_rows.specs.declared.form.ComprehensionClause.TheVariants as comprehension_clauses
 use Rattle.flow_forms.specs.declared.clauses.Clause.{Clause}
-use Rattle.flow_forms.specs.Clauses.{kind_at, parts_at, running, first_or, second_or, last_or, clauses_of}
+use Rattle.py_base.specs.Nodes.{kind_at, parts_at}
+use Rattle.flow_forms.specs.Clauses.{running, first_or, second_or, last_or, clauses_of}
 use Rattle.flow_forms.specs.Patterns.{gather, captures, values}
 
 -- whether a part is the first clause of a comprehension

@@ -8,7 +8,7 @@ use Rattle.py_base.specs.declared.node.NodeKind.TheVariants as kinds
 use Rattle.py_base.specs.declared.node.Word.{Word}
 use Rattle.py_base.specs.declared.node.Word.TheVariants as words
 use Rattle.py_base.specs.Tree.{Arena, name_at}
-use Rattle.flow_forms.specs.Clauses.{kind_at, parts_at}
+use Rattle.py_base.specs.Nodes.{kind_at, parts_at}
 
 -- what each part gives, in order
 abbrev pub gather : (NodeId → List NodeId) → List NodeId → List NodeId

@@ -1,9 +1,8 @@
 //! Nodes as the forms are read from them, and the clauses of compound statements.
-ghost use Rattle.std.specs.Prelude.{◌≡◌, ◌<◌, drop, [], ◌∷◌, ◌++◌, IfOk, OnOk, OnSome, slice_get, Option, None, Some};
-ghost use Rattle.std.specs.Option.{option_copied};
-ghost use Rattle.flow_forms.specs.Clauses.{kind_at, parts_at, is_silent, runs, running, first_or, second_or, last_or, header_of, is_filled, body_of, clause_of, is_header, clause_at, clauses_from, clauses_of};
+ghost use Rattle.std.specs.Prelude.{◌≡◌, ◌<◌, drop, [], ◌∷◌, ◌++◌, IfOk, OnOk};
+ghost use Rattle.flow_forms.specs.Clauses.{is_silent, runs, running, first_or, second_or, last_or, header_of, is_filled, body_of, clause_of, is_header, clause_at, clauses_from, clauses_of};
 
-use py_base::{List, NoMemory, Node, NodeId, NodeKind, Tree};
+use py_base::{List, NoMemory, NodeId, NodeKind, Tree};
 use std::alloc::Global;
 
 /// A clause of a compound statement: its header, the kind of that, the parts of that which run, and its
@@ -14,37 +13,6 @@ pub struct Clause {
     pub kind: NodeKind,
     pub parts: List<NodeId>,
     pub body: NodeId,
-}
-
-/// A node; `None` exactly where the tree has none of this number.
-pub fn node_at(tree: &Tree, node: NodeId) -> Option<&Node>
-    ensures { option_copied result ≡ slice_get tree.now.nodes node.0 }
-{
-    if (node.0 as usize) < tree.node_count() {
-        Some(tree.node(node))
-    } else {
-        None
-    }
-}
-
-/// The kind of a node. A number that is no node's counts as a faulty line.
-pub fn kind_of(tree: &Tree, node: NodeId) -> NodeKind
-    ensures { result ≡ kind_at tree.now.nodes node }
-{
-    match node_at(tree, node) {
-        None => NodeKind::Fault,
-        Some(node) => node.kind,
-    }
-}
-
-/// The parts of a node, none for a number that is no node's.
-pub fn parts_of(tree: &Tree, node: NodeId) -> &[NodeId]
-    ensures { result.now ≡ parts_at tree.now.nodes node }
-{
-    match node_at(tree, node) {
-        None => &[],
-        Some(node) => node.parts.as_slice(),
-    }
 }
 
 // Whether a part of this kind doesn't run.
@@ -69,7 +37,7 @@ pub fn add_running(tree: &Tree, parts: &[NodeId], list: &mut List<NodeId>) -> Re
     ensures { OnOk result (list.new ≡ list.old ++ running tree.now.nodes parts.now) }
 {
     for part in parts {
-        if !is_silent(kind_of(tree, *part)) {
+        if !is_silent(tree.kind(*part)) {
             list.push(*part)?;
         }
     }
@@ -132,7 +100,7 @@ fn bare_header(tree: &Tree, part: NodeId, kind: NodeKind) -> NodeId
     ensures { result ≡ header_of tree.now.nodes part kind }
 {
     match kind {
-        NodeKind::Async => first_else(part, parts_of(tree, part)),
+        NodeKind::Async => first_else(part, tree.parts(part)),
         _ => part,
     }
 }
@@ -153,7 +121,7 @@ fn body_behind(tree: &Tree, last: NodeId, behind: Option<NodeId>) -> NodeId
     match behind {
         None => last,
         Some(behind) => {
-            if has_statements(kind_of(tree, last), parts_of(tree, last)) {
+            if has_statements(tree.kind(last), tree.parts(last)) {
                 last
             } else {
                 behind
@@ -171,10 +139,10 @@ fn read_clause(
 ) -> Result<Clause, NoMemory>
     ensures { IfOk result (λ clause. clause ≡ clause_of tree.now.nodes header behind) }
 {
-    let parts = parts_of(tree, header);
+    let parts = tree.parts(header);
     Ok(Clause {
         header,
-        kind: kind_of(tree, header),
+        kind: tree.kind(header),
         parts: running_parts(alloc, tree, parts)?,
         body: body_behind(tree, last_else(header, parts), behind),
     })
@@ -199,7 +167,7 @@ fn add_clause(
 ) -> Result<(), NoMemory>
     ensures { OnOk result (clauses.new ≡ clauses.old ++ clause_at tree.now.nodes part behind) }
 {
-    let kind = kind_of(tree, part);
+    let kind = tree.kind(part);
     if !begins_clause(kind) {
         return Ok(());
     }

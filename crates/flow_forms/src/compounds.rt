@@ -3,9 +3,9 @@ ghost use Rattle.std.specs.Prelude.{◌≡◌, [], ◌∷◌, ◌++◌, IfOk, On
 ghost use Rattle.flow_forms.specs.Forms.{test_of, branch_of, if_form, else_or, else_of, finally_or, finally_of, while_form, for_form, handler_of, handler_in, handlers_of, try_form, with_form, match_form, case_form};
 ghost use Rattle.flow_forms.specs.Patterns.{captures, values};
 
-use crate::clauses::{Clause, add_running, first_else, parts_of, running_parts, second_else};
+use crate::clauses::{Clause, add_running, first_else, running_parts, second_else};
 use crate::patterns::{TREE_HEIGHT, add_captures, add_values};
-use flow_points::{Branch, CaseForm, ForForm, Form, Handler, MatchForm, TryForm, WhileForm};
+use flow_rows::{Branch, CaseForm, ForForm, Form, Handler, MatchForm, TryForm, WhileForm};
 use py_base::{List, NoMemory, NodeId, NodeKind, Tree};
 use std::alloc::Global;
 
@@ -176,7 +176,7 @@ pub fn form_of_match(alloc: Global, tree: &Tree, clauses: &[Clause]) -> Result<F
         [] => Ok(Form::Silent),
         [clause, ..] => Ok(Form::Match(MatchForm {
             subject: first_else(clause.header, clause.parts.as_slice()),
-            cases: running_parts(alloc, tree, parts_of(tree, clause.body))?,
+            cases: running_parts(alloc, tree, tree.parts(clause.body))?,
         })),
     }
 }

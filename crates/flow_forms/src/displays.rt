@@ -2,8 +2,8 @@
 ghost use Rattle.std.specs.Prelude.{◌≡◌, [], ◌∷◌, ◌++◌, IfOk, OnOk, drop};
 ghost use Rattle.flow_forms.specs.Forms.{is_for, is_comprehension, comprehension_clause, comprehension_clauses_of, display_form, round_form, call_form};
 
-use crate::clauses::{kind_of, parts_of, running_parts};
-use flow_points::{ComprehensionClause, Form};
+use crate::clauses::running_parts;
+use flow_rows::{ComprehensionClause, Form};
 use py_base::{List, NoMemory, NodeId, NodeKind, Tree};
 use std::alloc::Global;
 
@@ -21,7 +21,7 @@ pub fn has_clauses(tree: &Tree, parts: &[NodeId]) -> bool
     ensures { result ≡ is_comprehension tree.now.nodes parts.now }
 {
     match parts {
-        [_, clause, ..] => begins_clauses(kind_of(tree, *clause)),
+        [_, clause, ..] => begins_clauses(tree.kind(*clause)),
         _ => false,
     }
 }
@@ -59,12 +59,7 @@ fn clauses_in(
 {
     let mut clauses = List::new(alloc);
     for part in parts {
-        add_clause(
-            *part,
-            kind_of(tree, *part),
-            parts_of(tree, *part),
-            &mut clauses,
-        )?;
+        add_clause(*part, tree.kind(*part), tree.parts(*part), &mut clauses)?;
     }
     Ok(clauses)
 }

@@ -3,9 +3,9 @@ ghost use Rattle.std.specs.Prelude.{◌≡◌, [], ◌∷◌, ◌++◌, IfOk, On
 ghost use Rattle.flow_forms.specs.Patterns.{gather};
 ghost use Rattle.flow_forms.specs.Forms.{default_in, default_of, name_in, name_of, lambda_run, lambda_form, pieces_in, pieces, parameters_in, parameters, def_form, class_form, alias_form};
 
-use crate::clauses::{Clause, add_running, first_else, kind_of, parts_of};
+use crate::clauses::{Clause, add_running, first_else};
 use crate::displays::has_clauses;
-use flow_points::{Form, Function};
+use flow_rows::{Form, Function};
 use py_base::{List, NoMemory, NodeId, NodeKind, Tree};
 use std::alloc::Global;
 
@@ -35,10 +35,7 @@ fn add_defaults(tree: &Tree, parts: &[NodeId], list: &mut List<NodeId>) -> Resul
     ensures { OnOk result (list.new ≡ list.old ++ gather (default_of tree.now.nodes) parts.now) }
 {
     for part in parts {
-        add_all(
-            default_part(kind_of(tree, *part), parts_of(tree, *part)),
-            list,
-        )?;
+        add_all(default_part(tree.kind(*part), tree.parts(*part)), list)?;
     }
     Ok(())
 }
@@ -73,7 +70,7 @@ fn add_names(tree: &Tree, parts: &[NodeId], list: &mut List<NodeId>) -> Result<(
     ensures { OnOk result (list.new ≡ list.old ++ gather (name_of tree.now.nodes) parts.now) }
 {
     for part in parts {
-        add_name(*part, kind_of(tree, *part), parts_of(tree, *part), list)?;
+        add_name(*part, tree.kind(*part), tree.parts(*part), list)?;
     }
     Ok(())
 }
@@ -89,7 +86,7 @@ fn add_lambda_run(
 {
     let mut before = part;
     for next in more {
-        add_name(before, kind_of(tree, before), parts_of(tree, before), list)?;
+        add_name(before, tree.kind(before), tree.parts(before), list)?;
         before = *next;
     }
     list.push(before)
@@ -141,13 +138,7 @@ fn add_pieces(tree: &Tree, parts: &[NodeId], list: &mut List<NodeId>) -> Result<
     ensures { OnOk result (list.new ≡ list.old ++ gather (pieces tree.now.nodes) parts.now) }
 {
     for part in parts {
-        add_piece(
-            tree,
-            *part,
-            kind_of(tree, *part),
-            parts_of(tree, *part),
-            list,
-        )?;
+        add_piece(tree, *part, tree.kind(*part), tree.parts(*part), list)?;
     }
     Ok(())
 }
@@ -172,7 +163,7 @@ fn add_parameters(tree: &Tree, parts: &[NodeId], list: &mut List<NodeId>) -> Res
     ensures { OnOk result (list.new ≡ list.old ++ gather (parameters tree.now.nodes) parts.now) }
 {
     for part in parts {
-        add_parameters_in(tree, kind_of(tree, *part), parts_of(tree, *part), list)?;
+        add_parameters_in(tree, tree.kind(*part), tree.parts(*part), list)?;
     }
     Ok(())
 }

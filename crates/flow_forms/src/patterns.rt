@@ -2,7 +2,7 @@
 ghost use Rattle.std.specs.Prelude.{◌≡◌, drop, [], ◌∷◌, ◌++◌, IfOk, OnOk};
 ghost use Rattle.flow_forms.specs.Patterns.{gather, is_underscore, is_wildcard, captured, inner, captures, evaluated, inner_values, values};
 
-use crate::clauses::{behind_first, kind_of, node_at, parts_of};
+use crate::clauses::behind_first;
 use py_base::{List, NameId, NoMemory, NodeId, NodeKind, Tree, Word};
 
 /// How high the tree of a line is at most, so that what goes down to this depth sees all of it.
@@ -18,7 +18,7 @@ fn is_the_underscore(tree: &Tree, name: NameId) -> bool
 fn is_a_wildcard(tree: &Tree, node: NodeId) -> bool
     ensures { result ≡ is_wildcard tree.now node }
 {
-    match node_at(tree, node) {
+    match tree.get(node) {
         None => false,
         Some(node) => match node.word {
             Word::Name(name) => is_the_underscore(tree, name),
@@ -81,9 +81,9 @@ pub fn add_captures(
     if left == 0 {
         return Ok(());
     }
-    let kind = kind_of(tree, node);
+    let kind = tree.kind(node);
     add_captured(tree, node, kind, list)?;
-    for part in inner_patterns(kind, parts_of(tree, node)) {
+    for part in inner_patterns(kind, tree.parts(node)) {
         add_captures(tree, *part, left - 1, list)?;
     }
     Ok(())
@@ -128,8 +128,8 @@ pub fn add_values(
     if left == 0 {
         return Ok(());
     }
-    let kind = kind_of(tree, node);
-    let parts = parts_of(tree, node);
+    let kind = tree.kind(node);
+    let parts = tree.parts(node);
     add_evaluated(node, kind, parts, list)?;
     for part in inner_expressions(kind, parts) {
         add_values(tree, *part, left - 1, list)?;

@@ -3,8 +3,8 @@ ghost use Rattle.std.specs.Prelude.{◌≡◌, [], ◌∷◌, ◌++◌, IfOk, On
 ghost use Rattle.flow_forms.specs.Patterns.{gather};
 ghost use Rattle.flow_forms.specs.Forms.{but_last, assign_form, annotated_form, imported_in, imported, assert_form, not_form, conditional_form, named_form};
 
-use crate::clauses::{kind_of, last_else, parts_of, running_parts};
-use flow_points::{Choice, Form};
+use crate::clauses::{last_else, running_parts};
+use flow_rows::{Choice, Form};
 use py_base::{List, NoMemory, NodeId, NodeKind, Tree};
 use std::alloc::Global;
 
@@ -41,7 +41,7 @@ pub fn form_of_annotated(alloc: Global, tree: &Tree, parts: &[NodeId]) -> Result
     match parts {
         [] => Ok(Form::Silent),
         [_] => Ok(Form::Silent),
-        [target, _] => Ok(Form::Steps(running_parts(alloc, tree, parts_of(tree, *target))?)),
+        [target, _] => Ok(Form::Steps(running_parts(alloc, tree, tree.parts(*target))?)),
         [target, _, value, ..] => Ok(Form::Steps(List::from_vec(vec![in alloc; *value, *target]?))),
     }
 }
@@ -72,12 +72,7 @@ pub fn form_of_import(alloc: Global, tree: &Tree, parts: &[NodeId]) -> Result<Fo
 {
     let mut steps = List::new(alloc);
     for part in parts {
-        add_imported(
-            *part,
-            kind_of(tree, *part),
-            parts_of(tree, *part),
-            &mut steps,
-        )?;
+        add_imported(*part, tree.kind(*part), tree.parts(*part), &mut steps)?;
     }
     Ok(Form::Steps(steps))
 }

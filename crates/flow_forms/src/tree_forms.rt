@@ -13,7 +13,7 @@ use crate::simple::{
     form_of_annotated, form_of_assert, form_of_assign, form_of_conditional, form_of_import,
     form_of_named, form_of_not,
 };
-use flow_points::{Channel, Form};
+use flow_rows::{Channel, Form};
 use py_base::{List, NoMemory, NodeId, NodeKind, Tree};
 use std::alloc::Global;
 

@@ -1,0 +1,6 @@
+mod Closing
+mod Gathering
+mod Marking
+mod Occurring
+mod Subjecting
+mod Whole

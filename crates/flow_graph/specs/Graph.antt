@@ -2,14 +2,15 @@
 -- sections 4.1, 4.2 and 6 to 8).
 use Rattle.py_base.specs.Tree.{Arena}
 use Rattle.py_scopes.specs.Table.{ScopeTable}
-use Rattle.cast_calls.specs.Casts.{casts_of}
+use Rattle.node_references.specs.Casts.{casts_of}
 use Rattle.point_graph.specs.Graph.{Numbered, IsGraph}
-use Rattle.flow_references.specs.Table.{ReferenceTable, AreReferences}
+use Rattle.flow_graph.specs.declared.table.References.{References}
+use Rattle.flow_graph.specs.Table.{AreReferences}
 
 -- what the clauses of `Graph` see
 pub record Flow : Type 0 where
   pub points : Numbered
-  pub references : ReferenceTable
+  pub references : References
 
 -- THE FLOW OF A TREE whose names have these owners and bindings: its points and edges, where the first argument of `cast` doesn't run, and
 -- the references at them

@@ -2,10 +2,12 @@
 ghost use Rattle.std.specs.Prelude.{◌≡◌, length, IfOk};
 ghost use Rattle.flow_graph.specs.Graph.{IsFlow};
 
-use cast_calls::casts;
-use flow_points::{EdgeKind, Point};
-use flow_references::{References, references};
-use node_references::node_references;
+use crate::condition::TestForm;
+use crate::filling::{form_facts, references};
+use crate::table::References;
+use flow_forms::forms;
+use flow_rows::{EdgeKind, Point};
+use node_references::{Root, at, casts, node_references};
 use point_graph::PointGraph;
 use py_base::{GraphId, NameId, NoMemory, NodeId, PointId, RefId, SymId, Tree};
 use py_scopes::Scopes;
@@ -25,22 +27,27 @@ pub struct Graph {
 
 impl Model for Graph {
     ghost use Rattle.flow_graph.specs.Graph.{Flow};
+    ghost use Rattle.flow_graph.specs.Table.{IsClosed};
 
     ghost Value = { Flow };
 
     ghost view = { λ g. record { points = g.points; references = g.references } };
+
+    ghost invariant = { λ g. IsClosed g.references };
 }
 
 impl Graph {
     ghost use Rattle.std.specs.Prelude.{◌≡◌, ◌<◌, ◌^◌, Some, IfSome, IsNone, slice_get, length};
-    ghost use Rattle.flow_points.specs.declared.point.Point.{Point};
+    ghost use Rattle.flow_rows.specs.declared.point.Point.{Point};
     ghost use Rattle.point_graph.specs.declared.members.Members.{Members};
-    ghost use Rattle.point_graph.specs.Graph.{IsClosed, listed_or, graph_id, points_or, end_or, home_or};
+    ghost use Rattle.flow_rows.specs.Flow.{Has};
+    ghost use Rattle.flow_rows.specs.Ends.{first_of};
+    ghost use Rattle.point_graph.specs.Graph.{IsClosed, call_source, listed_or, graph_id, points_or, end_or, home_or};
     ghost use Rattle.point_graph.specs.Numbers.{IsNumber, AreWithin};
     ghost use Rattle.point_graph.specs.Operands.{IsPointAt};
     ghost use Rattle.node_references.specs.Reference.{Reference};
-    ghost use Rattle.node_references.specs.Numbers.{flat, symbol_of};
-    ghost use Rattle.flow_references.specs.Table.{AreBelow, IsClosed as AreIds};
+    ghost use Rattle.node_references.specs.Numbers.{flat, symbol_of, IsPrefixOf};
+    ghost use Rattle.flow_graph.specs.Table.{AreBelow, condition_of, mirrored_of, reference_in, IsClosed as AreIds};
 
     /// The points from which edges lead to a point, none for a number that no point has.
     pub fn antecedents(&self, point: PointId) -> &[PointId]
@@ -103,6 +110,23 @@ impl Graph {
         self.points.point(node, copy)
     }
 
+    /// The first point of a node in a copy: where what leads into the node leads to, as the first operand of an
+    /// expression or the label of a loop; `None` exactly where that is no point.
+    pub fn first(&self, node: NodeId, copy: u32) -> Option<PointId>
+        ensures some { IfSome result (λ id. IsNumber self.now.points.points id (first_of self.now.points.ends node copy)) }
+        ensures none { IsNone result → Has self.now.points.points (first_of self.now.points.ends node copy) → ⊥ }
+    {
+        self.points.first(node, copy)
+    }
+
+    /// The point before a call, by the point of the call: that from which its edge of kind `Call` leads; `None`
+    /// exactly where no such edge leads to the point.
+    pub fn before_call(&self, point: PointId) -> Option<PointId>
+        ensures { result ≡ call_source (listed_or (slice_get self.now.points.antecedents point.0)) (listed_or (slice_get self.now.points.kinds point.0)) }
+    {
+        self.points.before_call(point)
+    }
+
     /// How many points have numbers.
     pub fn len(&self) -> usize
         ensures value { result ≡ length self.now.points.points }
@@ -124,14 +148,17 @@ impl Graph {
         ensures value { result.now ≡ listed_or (slice_get self.now.references.graphs graph.0) }
         ensures within { AreBelow (length self.now.references.list) result.now }
     {
-        self.references.references(graph)
+        match self.references.graphs.get(graph.0 as usize) {
+            None => &[],
+            Some(list) => list.as_slice(),
+        }
     }
 
     /// Points times references, summed over the graphs, and at most 2^64 - 1.
     pub fn size(&self) -> u64
         ensures { result ≡ self.now.references.size }
     {
-        self.references.size()
+        self.references.size
     }
 
     /// The reference that a point binds, and the node that says to what: the name or the attribute that is
@@ -141,7 +168,7 @@ impl Graph {
         ensures value { result ≡ flat (slice_get self.now.references.bindings point.0) }
         ensures within { IfSome result (λ b. b.0.0 < length self.now.references.list) }
     {
-        self.references.binding(point)
+        at(self.references.bindings.as_slice(), point.0)
     }
 
     /// How many references have numbers.
@@ -149,7 +176,7 @@ impl Graph {
         ensures value { result ≡ length self.now.references.list }
         ensures closed { AreIds self.now.references }
     {
-        self.references.len()
+        self.references.list.len()
     }
 
     /// The symbol of a reference, `None` exactly for the hidden one of a `match`, and the names behind it.
@@ -157,7 +184,21 @@ impl Graph {
         requires { reference.0 < length self.now.references.list }
         ensures { (r : Reference) × (slice_get self.now.references.list reference.0 ≡ Some r) × (result.0 ≡ symbol_of r.root) × (result.1.now ≡ r.names) }
     {
-        self.references.reference(reference)
+        let (root, names) = self.references.list.reference(reference);
+        let symbol = match root {
+            Root::Symbol(symbol) => Some(symbol),
+            Root::Subject(_) => None,
+        };
+        (symbol, names)
+    }
+
+    /// The reference before the last name of a reference, and that name; `None` exactly where no name stands in
+    /// it behind what it begins with.
+    pub fn prefix(&self, reference: RefId) -> Option<(RefId, NameId)>
+        requires { reference.0 < length self.now.references.list }
+        ensures { (r : Reference) → slice_get self.now.references.list reference.0 ≡ Some r → IsPrefixOf self.now.references.list result r }
+    {
+        at(self.references.prefixes.as_slice(), reference.0)
     }
 
     /// The reference that the name or the chain at a node reads, `None` exactly where it reads none.
@@ -165,19 +206,39 @@ impl Graph {
         ensures value { result ≡ flat (slice_get self.now.references.reads node.0) }
         ensures within { IfSome result (λ r. r.0 < length self.now.references.list) }
     {
-        self.references.read(node)
+        at(self.references.reads.as_slice(), node.0)
     }
 
     /// The reference that stands in place of `x` where the node has the form of a test, as `x is None` or
     /// `isinstance(x, C)`, and for a case the subject of its `match` where that is a reference; `None`
-    /// exactly where there is none of these. A node that doesn't run tests nothing. What the names of classes
-    /// and functions in it stand for isn't looked at: where both sides of `==` are chains, as in
-    /// `C.M == a.x`, it is the left one.
+    /// exactly where there is none of these. A node that doesn't run tests nothing, and isn't tested, as the
+    /// first argument of `cast`. What the names of classes and functions in it stand for isn't looked at: where
+    /// both sides of `==` are chains, as in `C.M == a.x`, it is the left one, and `mirrored` gives the other.
     pub fn tested(&self, node: NodeId) -> Option<RefId>
-        ensures value { result ≡ flat (slice_get self.now.references.tests node.0) }
+        ensures value { result ≡ reference_in (condition_of (slice_get self.now.references.tests node.0)) }
         ensures within { IfSome result (λ r. r.0 < length self.now.references.list) }
     {
-        self.references.tested(node)
+        let (reference, _) = self.condition(node)?;
+        Some(reference)
+    }
+
+    /// The reference that `tested` gives, with the form of the test.
+    pub fn condition(&self, node: NodeId) -> Option<(RefId, TestForm)>
+        ensures value { result ≡ condition_of (slice_get self.now.references.tests node.0) }
+        ensures within { IfSome result (λ c. c.0.0 < length self.now.references.list) }
+    {
+        let tested = self.references.tests.get(node.0 as usize)?;
+        tested.condition
+    }
+
+    /// The reference on the right side of `L == x` or `L != x`, with the form of that test, where `tested` gives the
+    /// one on the left; `None` exactly where it doesn't, or where the right side is none.
+    pub fn mirrored(&self, node: NodeId) -> Option<(RefId, TestForm)>
+        ensures value { result ≡ mirrored_of (slice_get self.now.references.tests node.0) }
+        ensures within { IfSome result (λ c. c.0.0 < length self.now.references.list) }
+    {
+        let tested = self.references.tests.get(node.0 as usize)?;
+        tested.mirrored
     }
 }
 
@@ -191,7 +252,9 @@ pub fn build(alloc: Global, tree: &Tree, scopes: &Scopes) -> Result<Graph, NoMem
 {
     let nodes = node_references(alloc, tree, scopes)?;
     let casts = casts(alloc, tree, scopes, &nodes)?;
-    let points = point_graph::build(alloc, tree, casts.as_slice())?;
-    let references = references(alloc, tree, scopes, nodes, &points)?;
+    let forms = forms(alloc, tree)?;
+    let facts = form_facts(alloc, tree, forms.as_slice())?;
+    let points = point_graph::build(alloc, tree, forms, casts.as_slice())?;
+    let references = references(alloc, tree, scopes, nodes, &facts, &points)?;
     Ok(Graph { points, references })
 }

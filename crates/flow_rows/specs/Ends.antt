@@ -2,14 +2,14 @@
 -- Principles of Program Analysis, section 2.1; Python 3.12 language reference, section 6.16, for what is evaluated first).
 use Rattle.std.specs.Prelude.{ℕ, List, [], ◌∷◌, ◌++◌, Option, None, Some, slice_get, length}
 use Rattle.py_base.specs.declared.ids.NodeId.{NodeId}
-use Rattle.flow_points.specs.declared.point.Point.{Point}
-use Rattle.flow_points.specs.declared.point.Role.{Role}
-use Rattle.flow_points.specs.declared.point.Role.TheVariants as roles
-use Rattle.flow_points.specs.declared.form.Form.{Form}
-use Rattle.flow_points.specs.declared.form.Form.TheVariants as forms
-use Rattle.flow_points.specs.declared.form.Branch.{Branch}
-use Rattle.flow_points.specs.declared.form.ComprehensionClause.{ComprehensionClause}
-use Rattle.flow_points.specs.declared.form.ComprehensionClause.TheVariants as clauses
+use Rattle.flow_rows.specs.declared.point.Point.{Point}
+use Rattle.flow_rows.specs.declared.point.Role.{Role}
+use Rattle.flow_rows.specs.declared.point.Role.TheVariants as roles
+use Rattle.flow_rows.specs.declared.form.Form.{Form}
+use Rattle.flow_rows.specs.declared.form.Form.TheVariants as forms
+use Rattle.flow_rows.specs.declared.form.Branch.{Branch}
+use Rattle.flow_rows.specs.declared.form.ComprehensionClause.{ComprehensionClause}
+use Rattle.flow_rows.specs.declared.form.ComprehensionClause.TheVariants as clauses
 use Rattle.flow_rows.specs.declared.ends.Lead.{Lead}
 use Rattle.flow_rows.specs.declared.ends.Ends.{Ends}
 

@@ -2,25 +2,29 @@
 -- language reference, sections 6.2 to 6.16).
 use Rattle.std.specs.Prelude.{ℕ, List, [], ◌∷◌, ◌++◌, Option, None, Some}
 use Rattle.py_base.specs.declared.ids.NodeId.{NodeId}
-use Rattle.flow_points.specs.declared.point.Point.{Point}
-use Rattle.flow_points.specs.declared.edge.Edge.{Edge}
-use Rattle.flow_points.specs.declared.edge.EdgeKind.{EdgeKind}
-use Rattle.flow_points.specs.declared.edge.EdgeKind.TheVariants.{Plain, Handler}
-use Rattle.flow_points.specs.declared.edge.EdgeKind.TheVariants as kinds
-use Rattle.flow_points.specs.declared.route.Channel.TheVariants.{Yes, No}
-use Rattle.flow_points.specs.declared.route.Channel.TheVariants as channels
-use Rattle.flow_points.specs.declared.route.Dest.TheVariants.{To, Up}
-use Rattle.flow_points.specs.declared.route.Route.TheVariants.{Through}
-use Rattle.flow_points.specs.declared.route.Mode.{Mode}
-use Rattle.flow_points.specs.declared.route.Mode.TheVariants.{Value, Condition, Body}
-use Rattle.flow_points.specs.declared.route.Kid.{Kid}
-use Rattle.flow_points.specs.declared.route.Row.{Row}
-use Rattle.flow_points.specs.declared.form.Choice.{Choice}
-use Rattle.flow_points.specs.declared.form.Function.{Function}
-use Rattle.flow_points.specs.declared.form.ComprehensionClause.{ComprehensionClause}
-use Rattle.flow_points.specs.declared.form.ComprehensionClause.TheVariants as clauses
-use Rattle.flow_points.specs.Points.{own, again, behind, start, edge}
-use Rattle.flow_points.specs.Routes.{exit}
+use Rattle.flow_rows.specs.declared.point.Point.{Point}
+use Rattle.flow_rows.specs.declared.edge.Edge.{Edge}
+use Rattle.flow_rows.specs.declared.edge.EdgeKind.{EdgeKind}
+use Rattle.flow_rows.specs.declared.edge.EdgeKind.TheVariants.{Plain, Handler}
+use Rattle.flow_rows.specs.declared.edge.EdgeKind.TheVariants as kinds
+use Rattle.flow_rows.specs.declared.choices.Operation.{Operation}
+use Rattle.flow_rows.specs.declared.choices.Operation.TheVariants as operations
+use Rattle.flow_rows.specs.declared.route.Channel.{Channel}
+use Rattle.flow_rows.specs.declared.route.Channel.TheVariants.{Yes, No}
+use Rattle.flow_rows.specs.declared.route.Channel.TheVariants as channels
+use Rattle.flow_rows.specs.declared.route.Dest.{Dest}
+use Rattle.flow_rows.specs.declared.route.Dest.TheVariants.{To, Up}
+use Rattle.flow_rows.specs.declared.route.Route.TheVariants.{Through}
+use Rattle.flow_rows.specs.declared.route.Mode.{Mode}
+use Rattle.flow_rows.specs.declared.route.Mode.TheVariants.{Value, Condition, Body}
+use Rattle.flow_rows.specs.declared.route.Kid.{Kid}
+use Rattle.flow_rows.specs.declared.route.Row.{Row}
+use Rattle.flow_rows.specs.declared.form.Choice.{Choice}
+use Rattle.flow_rows.specs.declared.form.Function.{Function}
+use Rattle.flow_rows.specs.declared.form.ComprehensionClause.{ComprehensionClause}
+use Rattle.flow_rows.specs.declared.form.ComprehensionClause.TheVariants as clauses
+use Rattle.flow_rows.specs.Points.{own, again, behind, start, edge}
+use Rattle.flow_rows.specs.Routes.{exit}
 use Rattle.flow_rows.specs.declared.ends.Ends.{Ends}
 use Rattle.flow_rows.specs.Ends.{first_of, last_of}
 use Rattle.flow_rows.specs.Paths.{path, path_end, chain, chain_to, plain_kid, test_kid, kids_by, finish, empty}
@@ -41,39 +45,22 @@ call_row t n callee arguments c m = record {
   kids = plain_kid c callee ∷ kids_by c Through arguments;
 }
 
--- b begins at the true exit of a; as a value, the exits of both join at the form's own point
-abbrev pub and_row : List Ends → NodeId → NodeId → NodeId → ℕ → Mode → Row
-and_row t n a b c Value = record {
-  arrows = [];
-  exits = [];
-  kids = test_kid c a (To (first_of t b c)) (To (own n c)) ∷ test_kid c b (To (own n c)) (To (own n c)) ∷ [];
-}
-and_row t n a b c Condition = record {
-  arrows = [];
-  exits = [];
-  kids = test_kid c a (To (first_of t b c)) (Up No) ∷ test_kid c b (Up Yes) (Up No) ∷ [];
-}
-and_row t n a b c Body = empty
+-- where an operation leads that is true or false: as a condition out by that exit, as a value to its own point
+abbrev pub outcome : NodeId → ℕ → Mode → Channel → Dest
+outcome n c Condition channel = Up channel
+outcome n c Value channel = To (own n c)
+outcome n c Body channel = To (own n c)
 
--- b begins at the false exit of a
-abbrev pub or_row : List Ends → NodeId → NodeId → NodeId → ℕ → Mode → Row
-or_row t n a b c Value = record {
-  arrows = [];
-  exits = [];
-  kids = test_kid c a (To (own n c)) (To (first_of t b c)) ∷ test_kid c b (To (own n c)) (To (own n c)) ∷ [];
-}
-or_row t n a b c Condition = record {
-  arrows = [];
-  exits = [];
-  kids = test_kid c a (Up Yes) (To (first_of t b c)) ∷ test_kid c b (Up Yes) (Up No) ∷ [];
-}
-or_row t n a b c Body = empty
+-- the parts of an operation: `and` goes on to b at the true exit of a, `or` at the false exit, and `not` swaps the exits
+abbrev pub operation_kids : List Ends → NodeId → Operation → ℕ → Mode → List Kid
+operation_kids t n (operations.And a b) c m =
+    test_kid c a (To (first_of t b c)) (outcome n c m No) ∷ test_kid c b (outcome n c m Yes) (outcome n c m No) ∷ []
+operation_kids t n (operations.Or a b) c m =
+    test_kid c a (outcome n c m Yes) (To (first_of t b c)) ∷ test_kid c b (outcome n c m Yes) (outcome n c m No) ∷ []
+operation_kids t n (operations.Not a) c m = test_kid c a (outcome n c m No) (outcome n c m Yes) ∷ []
 
--- the exits are swapped
-abbrev pub not_row : NodeId → NodeId → ℕ → Mode → Row
-not_row n a c Value = record { arrows = []; exits = []; kids = test_kid c a (To (own n c)) (To (own n c)) ∷ [] }
-not_row n a c Condition = record { arrows = []; exits = []; kids = test_kid c a (Up No) (Up Yes) ∷ [] }
-not_row n a c Body = empty
+abbrev pub operation_row : List Ends → NodeId → Operation → ℕ → Mode → Row
+operation_row t n operation c m = record { arrows = []; exits = []; kids = operation_kids t n operation c m }
 
 -- brackets are seen through; as a value they have a point
 abbrev pub group_row : List Ends → NodeId → NodeId → ℕ → Mode → Row

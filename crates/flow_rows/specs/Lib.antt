@@ -1,5 +1,10 @@
+pub mod Points
+pub mod Routes
 pub mod Ends
 pub mod Paths
 pub mod Expressions
 pub mod Statements
 pub mod Rows
+pub mod Flow
+pub mod Edges
+pub mod Around

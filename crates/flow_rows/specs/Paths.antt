@@ -2,21 +2,21 @@
 -- 6.16: expressions are evaluated from left to right).
 use Rattle.std.specs.Prelude.{ℕ, List, [], ◌∷◌, ◌++◌, map, Option, None, Some}
 use Rattle.py_base.specs.declared.ids.NodeId.{NodeId}
-use Rattle.flow_points.specs.declared.point.Point.{Point}
-use Rattle.flow_points.specs.declared.edge.Edge.{Edge}
-use Rattle.flow_points.specs.declared.edge.EdgeKind.{EdgeKind}
-use Rattle.flow_points.specs.declared.edge.EdgeKind.TheVariants.{Plain, True, False}
-use Rattle.flow_points.specs.declared.route.Channel.TheVariants.{Yes, No}
-use Rattle.flow_points.specs.declared.route.Exit.{Exit}
-use Rattle.flow_points.specs.declared.route.Dest.{Dest}
-use Rattle.flow_points.specs.declared.route.Route.{Route}
-use Rattle.flow_points.specs.declared.route.Route.TheVariants.{Through, Test}
-use Rattle.flow_points.specs.declared.route.Mode.{Mode}
-use Rattle.flow_points.specs.declared.route.Mode.TheVariants.{Value, Condition, Body}
-use Rattle.flow_points.specs.declared.route.Kid.{Kid}
-use Rattle.flow_points.specs.declared.route.Row.{Row}
-use Rattle.flow_points.specs.Points.{own, edge}
-use Rattle.flow_points.specs.Routes.{exit}
+use Rattle.flow_rows.specs.declared.point.Point.{Point}
+use Rattle.flow_rows.specs.declared.edge.Edge.{Edge}
+use Rattle.flow_rows.specs.declared.edge.EdgeKind.{EdgeKind}
+use Rattle.flow_rows.specs.declared.edge.EdgeKind.TheVariants.{Plain, True, False}
+use Rattle.flow_rows.specs.declared.route.Channel.TheVariants.{Yes, No}
+use Rattle.flow_rows.specs.declared.route.Exit.{Exit}
+use Rattle.flow_rows.specs.declared.route.Dest.{Dest}
+use Rattle.flow_rows.specs.declared.route.Route.{Route}
+use Rattle.flow_rows.specs.declared.route.Route.TheVariants.{Through, Test}
+use Rattle.flow_rows.specs.declared.route.Mode.{Mode}
+use Rattle.flow_rows.specs.declared.route.Mode.TheVariants.{Value, Condition, Body}
+use Rattle.flow_rows.specs.declared.route.Kid.{Kid}
+use Rattle.flow_rows.specs.declared.route.Row.{Row}
+use Rattle.flow_rows.specs.Points.{own, edge}
+use Rattle.flow_rows.specs.Routes.{exit}
 use Rattle.flow_rows.specs.declared.ends.Ends.{Ends}
 use Rattle.flow_rows.specs.Ends.{first_of, last_of}
 

@@ -1,31 +1,31 @@
 -- The rows of statements (Python 3.12 language reference, sections 7.3, 7.6 to 7.10 and 8.1 to 8.7).
 use Rattle.std.specs.Prelude.{ℕ, List, [], ◌∷◌, ◌++◌, map, Option, None, Some}
 use Rattle.py_base.specs.declared.ids.NodeId.{NodeId}
-use Rattle.flow_points.specs.declared.point.Point.{Point}
-use Rattle.flow_points.specs.declared.edge.Edge.{Edge}
-use Rattle.flow_points.specs.declared.edge.EdgeKind.{EdgeKind}
-use Rattle.flow_points.specs.declared.edge.EdgeKind.TheVariants as kinds
-use Rattle.flow_points.specs.declared.edge.EdgeKind.TheVariants.{Plain, NotCase}
-use Rattle.flow_points.specs.declared.route.Channel.{Channel}
-use Rattle.flow_points.specs.declared.route.Channel.TheVariants as channels
-use Rattle.flow_points.specs.declared.route.Channel.TheVariants.{Yes, No}
-use Rattle.flow_points.specs.declared.route.Exit.{Exit}
-use Rattle.flow_points.specs.declared.route.Dest.TheVariants.{To, Up}
-use Rattle.flow_points.specs.declared.route.Route.{Route}
-use Rattle.flow_points.specs.declared.route.Route.TheVariants as routes
-use Rattle.flow_points.specs.declared.route.Route.TheVariants.{Through, Test, Watched}
-use Rattle.flow_points.specs.declared.route.Mode.TheVariants.{Value}
-use Rattle.flow_points.specs.declared.route.Kid.{Kid}
-use Rattle.flow_points.specs.declared.route.Row.{Row}
-use Rattle.flow_points.specs.declared.form.Branch.{Branch}
-use Rattle.flow_points.specs.declared.form.WhileForm.{WhileForm}
-use Rattle.flow_points.specs.declared.form.ForForm.{ForForm}
-use Rattle.flow_points.specs.declared.form.Handler.{Handler}
-use Rattle.flow_points.specs.declared.form.TryForm.{TryForm}
-use Rattle.flow_points.specs.declared.form.MatchForm.{MatchForm}
-use Rattle.flow_points.specs.declared.form.CaseForm.{CaseForm}
-use Rattle.flow_points.specs.Points.{own, again, behind, fail, handlers, checked, normal, edge}
-use Rattle.flow_points.specs.Routes.{exit, arrows_to}
+use Rattle.flow_rows.specs.declared.point.Point.{Point}
+use Rattle.flow_rows.specs.declared.edge.Edge.{Edge}
+use Rattle.flow_rows.specs.declared.edge.EdgeKind.{EdgeKind}
+use Rattle.flow_rows.specs.declared.edge.EdgeKind.TheVariants as kinds
+use Rattle.flow_rows.specs.declared.edge.EdgeKind.TheVariants.{Plain, NotCase}
+use Rattle.flow_rows.specs.declared.route.Channel.{Channel}
+use Rattle.flow_rows.specs.declared.route.Channel.TheVariants as channels
+use Rattle.flow_rows.specs.declared.route.Channel.TheVariants.{Yes, No}
+use Rattle.flow_rows.specs.declared.route.Exit.{Exit}
+use Rattle.flow_rows.specs.declared.route.Dest.TheVariants.{To, Up}
+use Rattle.flow_rows.specs.declared.route.Route.{Route}
+use Rattle.flow_rows.specs.declared.route.Route.TheVariants as routes
+use Rattle.flow_rows.specs.declared.route.Route.TheVariants.{Through, Test, Watched}
+use Rattle.flow_rows.specs.declared.route.Mode.TheVariants.{Value}
+use Rattle.flow_rows.specs.declared.route.Kid.{Kid}
+use Rattle.flow_rows.specs.declared.route.Row.{Row}
+use Rattle.flow_rows.specs.declared.form.Branch.{Branch}
+use Rattle.flow_rows.specs.declared.form.WhileForm.{WhileForm}
+use Rattle.flow_rows.specs.declared.form.ForForm.{ForForm}
+use Rattle.flow_rows.specs.declared.form.Handler.{Handler}
+use Rattle.flow_rows.specs.declared.form.TryForm.{TryForm}
+use Rattle.flow_rows.specs.declared.form.MatchForm.{MatchForm}
+use Rattle.flow_rows.specs.declared.form.CaseForm.{CaseForm}
+use Rattle.flow_rows.specs.Points.{own, again, behind, fail, handlers, checked, normal, edge}
+use Rattle.flow_rows.specs.Routes.{exit, arrows_to}
 use Rattle.flow_rows.specs.declared.ends.Ends.{Ends}
 use Rattle.flow_rows.specs.Ends.{first_of, last_of}
 use Rattle.flow_rows.specs.Paths.{path, path_end, chain_to, kid, plain_kid, test_kid, kids_by, listed_part, first_or}

@@ -1,11 +1,11 @@
 //! The rows of expressions whose parts are conditions.
 ghost use Rattle.std.specs.Prelude.{◌≡◌, ℕ, [], ◌∷◌, ◌++◌, IfOk, OnOk};
 ghost use Rattle.flow_rows.specs.Paths.{plain_kid, test_kid, empty};
-ghost use Rattle.flow_rows.specs.Expressions.{and_row, or_row, not_row, group_row, choice_row};
+ghost use Rattle.flow_rows.specs.Expressions.{outcome, operation_row, group_row, choice_row};
 
 use crate::ends::{Ends, first, last};
 use crate::path::{nothing, plain, test, whole};
-use flow_points::{Channel, Choice, Dest, Edge, Kid, Mode, Point, Row};
+use crate::{Channel, Choice, Dest, Edge, Kid, Mode, Point, Row};
 use py_base::{List, NoMemory, NodeId};
 use std::alloc::Global;
 
@@ -22,84 +22,54 @@ fn row_with(alloc: Global, arrows: Vec<Edge>, kids: Vec<Kid>) -> Row
     }
 }
 
-/// `a and b`: the second begins at the true exit of the first.
-pub fn row_of_and(
-    alloc: Global,
-    ends: &[Ends],
-    node: NodeId,
-    a: NodeId,
-    b: NodeId,
-    copy: u32,
-    mode: Mode,
-) -> Result<Row, NoMemory>
-    ensures { IfOk result (λ row. row ≡ and_row ends.now node a b copy mode) }
+/// An operation on truth values.
+#[derive(Clone, Copy, Debug)]
+pub enum Operation {
+    And(NodeId, NodeId),
+    Or(NodeId, NodeId),
+    Not(NodeId),
+}
+
+// Where an operation leads that is true or false: as a condition out by that exit, as a value to its own point.
+fn outcome(node: NodeId, copy: u32, mode: Mode, channel: Channel) -> Dest
+    ensures { result ≡ outcome node copy mode channel }
 {
-    let own = Dest::To(Point::own(node, copy));
-    let second = Dest::To(first(ends, b, copy));
     match mode {
-        Mode::Value => {
-            let kids = vec![in alloc; test(a, copy, second, own), test(b, copy, own, own)]?;
-            Ok(row_with(alloc, Vec::new(alloc), kids))
-        }
-        Mode::Condition => {
-            let kids = vec![in alloc;
-                test(a, copy, second, Dest::Up(Channel::No)),
-                test(b, copy, Dest::Up(Channel::Yes), Dest::Up(Channel::No)),
-            ]?;
-            Ok(row_with(alloc, Vec::new(alloc), kids))
-        }
-        Mode::Body => Ok(nothing(alloc)),
+        Mode::Condition => Dest::Up(channel),
+        Mode::Value | Mode::Body => Dest::To(Point::own(node, copy)),
     }
 }
 
-/// `a or b`: the second begins at the false exit of the first.
-pub fn row_of_or(
+/// `and` goes on to its second operand at the true exit of the first, `or` at the false exit, and `not` swaps
+/// the exits.
+pub fn row_of_operation(
     alloc: Global,
     ends: &[Ends],
     node: NodeId,
-    a: NodeId,
-    b: NodeId,
+    operation: Operation,
     copy: u32,
     mode: Mode,
 ) -> Result<Row, NoMemory>
-    ensures { IfOk result (λ row. row ≡ or_row ends.now node a b copy mode) }
+    ensures { IfOk result (λ row. row ≡ operation_row ends.now node operation copy mode) }
 {
-    let own = Dest::To(Point::own(node, copy));
-    let second = Dest::To(first(ends, b, copy));
-    match mode {
-        Mode::Value => {
-            let kids = vec![in alloc; test(a, copy, own, second), test(b, copy, own, own)]?;
+    let yes = outcome(node, copy, mode, Channel::Yes);
+    let no = outcome(node, copy, mode, Channel::No);
+    match operation {
+        Operation::And(a, b) => {
+            let second = Dest::To(first(ends, b, copy));
+            let kids = vec![in alloc; test(a, copy, second, no), test(b, copy, yes, no)]?;
             Ok(row_with(alloc, Vec::new(alloc), kids))
         }
-        Mode::Condition => {
-            let kids = vec![in alloc;
-                test(a, copy, Dest::Up(Channel::Yes), second),
-                test(b, copy, Dest::Up(Channel::Yes), Dest::Up(Channel::No)),
-            ]?;
+        Operation::Or(a, b) => {
+            let second = Dest::To(first(ends, b, copy));
+            let kids = vec![in alloc; test(a, copy, yes, second), test(b, copy, yes, no)]?;
             Ok(row_with(alloc, Vec::new(alloc), kids))
         }
-        Mode::Body => Ok(nothing(alloc)),
+        Operation::Not(a) => {
+            let kids = vec![in alloc; test(a, copy, no, yes)]?;
+            Ok(row_with(alloc, Vec::new(alloc), kids))
+        }
     }
-}
-
-/// `not a`: the exits are swapped.
-pub fn row_of_not(
-    alloc: Global,
-    node: NodeId,
-    a: NodeId,
-    copy: u32,
-    mode: Mode,
-) -> Result<Row, NoMemory>
-    ensures { IfOk result (λ row. row ≡ not_row node a copy mode) }
-{
-    let own = Dest::To(Point::own(node, copy));
-    let kid = match mode {
-        Mode::Value => test(a, copy, own, own),
-        Mode::Condition => test(a, copy, Dest::Up(Channel::No), Dest::Up(Channel::Yes)),
-        Mode::Body => return Ok(nothing(alloc)),
-    };
-    let kids = vec![in alloc; kid]?;
-    Ok(row_with(alloc, Vec::new(alloc), kids))
 }
 
 /// Brackets around one expression.

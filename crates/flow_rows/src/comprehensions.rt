@@ -1,15 +1,13 @@
 //! The rows of comprehensions.
 ghost use Rattle.std.specs.Prelude.{◌≡◌, ℕ, [], ◌∷◌, ◌++◌, IfOk, OnOk, Option, None, Some};
-ghost use Rattle.flow_points.specs.Points.{edge, again};
+ghost use Rattle.flow_rows.specs.Points.{edge, again};
 ghost use Rattle.flow_rows.specs.Ends.{first_of, last_of};
 ghost use Rattle.flow_rows.specs.Paths.{plain_kid, test_kid};
 ghost use Rattle.flow_rows.specs.Expressions.{entered, loop_arrows, loop_kids, comprehension_row, call_over_row};
 
 use crate::ends::{Ends, first, last};
 use crate::path::{finished, plain, test, whole};
-use flow_points::{
-    Channel, ComprehensionClause, Dest, Edge, EdgeKind, Exit, Kid, Mode, Point, Row,
-};
+use crate::{Channel, ComprehensionClause, Dest, Edge, EdgeKind, Exit, Kid, Mode, Point, Row};
 use py_base::{List, NoMemory, NodeId};
 use std::alloc::Global;
 

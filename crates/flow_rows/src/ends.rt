@@ -2,7 +2,7 @@
 ghost use Rattle.std.specs.Prelude.{◌≡◌, ℕ, ◌<◌, ◌^◌, [], ◌∷◌, ◌++◌, IfOk, OnOk, length};
 ghost use Rattle.flow_rows.specs.Ends.{first_of, last_of, ends_of, first_in, last_in, branch_lead, clauses_lead, first_lead, last_lead, ends_entry, ends_table};
 
-use flow_points::{ComprehensionClause, Form, Point, Role};
+use crate::{ComprehensionClause, Form, Point, Role};
 use py_base::{List, NoMemory, NodeId};
 use std::alloc::Global;
 

@@ -1,13 +1,13 @@
 //! The row of `try`.
 ghost use Rattle.std.specs.Prelude.{◌≡◌, ℕ, ◌<◌, [], ◌∷◌, ◌++◌, IfOk, OnOk};
-ghost use Rattle.flow_points.specs.Points.{edge, handlers, behind};
-ghost use Rattle.flow_points.specs.Routes.{arrows_to};
+ghost use Rattle.flow_rows.specs.Points.{edge, handlers, behind};
+ghost use Rattle.flow_rows.specs.Routes.{arrows_to};
 ghost use Rattle.flow_rows.specs.Paths.{path, path_end, kids_by, kid, listed_part};
 ghost use Rattle.flow_rows.specs.Statements.{onward, handler_arrows, watch, handler_kids, body_route, start_arrows, start_exits, cleanup_arrows, cleanup_kids, try_row};
 
 use crate::ends::{Ends, first, last};
 use crate::path::{add_arrows, add_kids, add_part, add_path, plain, routed, whole};
-use flow_points::{Channel, Edge, EdgeKind, Exit, Handler, Kid, Point, Route, Row, TryForm};
+use crate::{Channel, Edge, EdgeKind, Exit, Handler, Kid, Point, Route, Row, TryForm};
 use py_base::{List, NoMemory, NodeId};
 use std::alloc::Global;
 

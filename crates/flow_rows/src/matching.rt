@@ -1,16 +1,14 @@
 //! The rows of `match` and `case`.
 ghost use Rattle.std.specs.Prelude.{◌≡◌, ℕ, [], ◌∷◌, ◌++◌, IfOk, OnOk, map};
-ghost use Rattle.flow_points.specs.declared.route.Mode.TheVariants as modes;
-ghost use Rattle.flow_points.specs.Points.{edge};
+ghost use Rattle.flow_rows.specs.declared.route.Mode.TheVariants as modes;
+ghost use Rattle.flow_rows.specs.Points.{edge};
 ghost use Rattle.flow_rows.specs.Ends.{last_of};
 ghost use Rattle.flow_rows.specs.Paths.{plain_kid, test_kid, kids_by, kid, path, chain_to};
 ghost use Rattle.flow_rows.specs.Statements.{next_case, case_kids, match_row, guarded, guard_kids, case_row};
 
 use crate::ends::{Ends, first, last};
 use crate::path::{add_chain_to, add_kids, add_path, plain, routed, test, whole};
-use flow_points::{
-    CaseForm, Channel, Dest, Edge, EdgeKind, Exit, Kid, MatchForm, Point, Route, Row,
-};
+use crate::{CaseForm, Channel, Dest, Edge, EdgeKind, Exit, Kid, MatchForm, Point, Route, Row};
 use py_base::{List, NoMemory, NodeId};
 use std::alloc::Global;
 

@@ -1,11 +1,11 @@
 //! Parts in order, and the small pieces of rows.
 ghost use Rattle.std.specs.Prelude.{◌≡◌, ℕ, [], ◌∷◌, ◌++◌, IfOk, OnOk};
-ghost use Rattle.flow_points.specs.Points.{edge};
-ghost use Rattle.flow_points.specs.Routes.{exit, arrows_to};
+ghost use Rattle.flow_rows.specs.Points.{edge};
+ghost use Rattle.flow_rows.specs.Routes.{exit, arrows_to};
 ghost use Rattle.flow_rows.specs.Paths.{path, path_end, chain, chain_to, plain_kid, test_kid, kids_by, kid, empty, finish, listed_part, first_or};
 
 use crate::ends::{Ends, first, last};
-use flow_points::{Channel, Dest, Edge, EdgeKind, Exit, Kid, Mode, Point, Route, Row};
+use crate::{Channel, Dest, Edge, EdgeKind, Exit, Kid, Mode, Point, Route, Row};
 use py_base::{List, NoMemory, NodeId};
 use std::alloc::Global;
 

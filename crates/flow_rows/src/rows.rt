@@ -3,14 +3,14 @@ ghost use Rattle.std.specs.Prelude.{◌≡◌, ℕ, ◌<◌, [], ◌∷◌, ◌+
 ghost use Rattle.flow_rows.specs.Expressions.{steps_row, sequence_row, call_row, function_row, body_row};
 ghost use Rattle.flow_rows.specs.Rows.{row, graph_row};
 
-use crate::choices::{row_of_and, row_of_choice, row_of_group, row_of_not, row_of_or};
+use crate::choices::{Operation, row_of_choice, row_of_group, row_of_operation};
 use crate::comprehensions::{row_of_call_over, row_of_comprehension};
 use crate::ends::{Ends, last};
 use crate::handlers::row_of_try;
 use crate::matching::{row_of_case, row_of_match};
 use crate::path::{add_chain, add_chain_to, add_kids, add_path, finished, nothing, whole};
 use crate::statements::{row_of_assert, row_of_branches, row_of_for, row_of_jump, row_of_while};
-use flow_points::{Channel, Edge, EdgeKind, Exit, Form, Function, Mode, Point, Route, Row};
+use crate::{Channel, Edge, EdgeKind, Exit, Form, Function, Mode, Point, Route, Row};
 use py_base::{List, NoMemory, NodeId};
 use std::alloc::Global;
 
@@ -168,9 +168,11 @@ pub fn row_of(
             let clauses = clauses.as_slice();
             row_of_call_over(alloc, ends, node, *callee, *element, clauses, copy, mode)
         }
-        Form::And(a, b) => row_of_and(alloc, ends, node, *a, *b, copy, mode),
-        Form::Or(a, b) => row_of_or(alloc, ends, node, *a, *b, copy, mode),
-        Form::Not(a) => row_of_not(alloc, node, *a, copy, mode),
+        Form::And(a, b) => {
+            row_of_operation(alloc, ends, node, Operation::And(*a, *b), copy, mode)
+        }
+        Form::Or(a, b) => row_of_operation(alloc, ends, node, Operation::Or(*a, *b), copy, mode),
+        Form::Not(a) => row_of_operation(alloc, ends, node, Operation::Not(*a), copy, mode),
         Form::Group(a) => row_of_group(alloc, ends, node, *a, copy, mode),
         Form::Conditional(choice) => row_of_choice(alloc, ends, node, *choice, copy, mode),
         Form::Comprehension(element, clauses) => {

@@ -1,13 +1,13 @@
 //! The rows of simple statements, `if`, and loops.
 ghost use Rattle.std.specs.Prelude.{◌≡◌, ℕ, [], ◌∷◌, ◌++◌, IfOk, OnOk, map};
-ghost use Rattle.flow_points.specs.Points.{edge};
+ghost use Rattle.flow_rows.specs.Points.{edge};
 ghost use Rattle.flow_rows.specs.Ends.{last_of};
 ghost use Rattle.flow_rows.specs.Paths.{plain_kid, test_kid};
 ghost use Rattle.flow_rows.specs.Statements.{jump_kind, jump_row, message_arrows, assert_row, branch_first, test_kids, branch_kids, branches_row, arrow_behind, while_row, for_row};
 
 use crate::ends::{Ends, first, last};
 use crate::path::{add_chain_to, add_kids, add_part, first_else, plain, routed, test, whole};
-use flow_points::{
+use crate::{
     Branch, Channel, Dest, Edge, EdgeKind, Exit, ForForm, Kid, Point, Route, Row, WhileForm,
 };
 use py_base::{List, NoMemory, NodeId};

@@ -1,3 +1,4 @@
+mod CastMarking
 mod Chaining
 pub mod Links
 mod Marking

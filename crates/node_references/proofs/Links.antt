@@ -1,6 +1,8 @@
 -- Numbers of references: a number keeps its reference, and no two numbers have one.
-use Rattle.std.proofs.Common.{◌≡◌, ℕ, zero, suc, ◌<◌, Bool, true, false, ◌||◌, List, [], ◌∷◌, ◌++◌, length, refl, ap, sym, ◌∙◌, subst, ◌⊎◌, inl, inr, Option, None, Some, slice_get, if◌then◌else◌, rules, true≢false, arith, length-append}
+use Rattle.std.proofs.Common.{◌≡◌, ℕ, zero, suc, ◌<◌, Bool, true, false, ◌||◌, List, [], ◌∷◌, ◌++◌, length, refl, ap, sym, ◌∙◌, subst, ◌⊎◌, inl, inr, Option, None, Some, slice_get, if◌then◌else◌, map, rules, true≢false, arith, length-append}
 use Rattle.std.specs.List.{list_any}
+use Rattle.std.specs.Option.{option_map}
+use Rattle.std.proofs.lemmas.Option.{slice_get-map}
 use Rattle.indexmap.specs.IndexSet.{insert_key}
 use Rattle.py_base.specs.declared.ids.NameId.{NameId}
 use Rattle.py_base.specs.declared.ids.RefId.{RefId}
@@ -9,8 +11,8 @@ use Rattle.node_references.specs.Reference.{Reference}
 use Rattle.node_references.specs.declared.numbering.Link.{Link}
 use Rattle.node_references.specs.declared.numbering.Link.TheVariants as links
 use Rattle.node_references.specs.contracts.numbering.LinkPartialEq.TheImpl.{eq-value}
-use Rattle.node_references.specs.Numbers.{AreApart, IsNumberOf}
-use Rattle.node_references.specs.Numbering.{Keeps, IsOf, AreLinked, IsBelow}
+use Rattle.node_references.specs.Numbers.{AreApart, IsNumberOf, IsPrefixOf, flat}
+use Rattle.node_references.specs.Numbering.{Keeps, GrowsBy, IsOf, AreLinked, IsBelow, prefix_of}
 
 pub get_append : {A : Type 0} (xs ys : List A) (i : ℕ) (x : A) → slice_get xs i ≡ Some x → slice_get (xs ++ ys) i ≡ Some x
 get_append [] ys i x h = absurd (cc h)
@@ -171,3 +173,25 @@ new_at keys new_keys list new k r at w off e f (l, there, same) =
       | inl a ↦ absurd (true≢false (sym (any_at keys k at a) ∙ off))
       | inr b ↦ rw (f, b.0, ← w.long) (get_last list r)
     ]
+
+-- the reference that came is that of the number
+pub grows_by : (list new : List Reference) (r : Reference) (id : RefId) → new ≡ list ++ r ∷ [] → slice_get new id.0 ≡ Some r → GrowsBy list new (Some id)
+grows_by list new r id pushed at i q h = elim (get_snoc list r i q (sym (ap (λ (l : List Reference). slice_get l i) pushed) ∙ h)) [
+  | inl old ↦ inl old
+  | inr last ↦ inr (at ∙ ap Some last.1)
+]
+
+-- the prefix that a link tells of its reference
+link_prefix : (list : List Reference) (link : Link) (r : Reference) → IsOf list link r → IsPrefixOf list (prefix_of link) r
+link_prefix list (links.Root root) r h = ap (λ (x : Reference). x.names) h
+link_prefix list (links.Member id name) r h = h
+
+pub prefixes_right : (keys : List Link) (list : List Reference) (prefixes : List (Option (RefId × NameId))) → AreLinked keys list → prefixes ≡ map prefix_of keys
+    → (i : ℕ) (r : Reference) → slice_get list i ≡ Some r → IsPrefixOf list (flat (slice_get prefixes i)) r
+prefixes_right keys list prefixes linked is i r at =
+    let (link, e) = got keys i (rw (← linked.long) (within list i r at)) in
+    let (one, there, of) = linked.each i link e in
+    let same : one ≡ r = cc (sym there ∙ at) in
+    let prefix : flat (slice_get prefixes i) ≡ prefix_of link =
+    ap (λ (l : List (Option (RefId × NameId))). flat (slice_get l i)) is ∙ ap flat (slice_get-map prefix_of keys i ∙ ap (option_map prefix_of) e) in
+    subst (λ (x : Option (RefId × NameId)). IsPrefixOf list x r) (sym prefix) (link_prefix list link r (subst (λ (x : Reference). IsOf list link x) same of))

@@ -1,8 +1,6 @@
 -- The reference of a node by those of its parts, which are older.
-use Rattle.std.proofs.Common.{◌≡◌, ℕ, zero, suc, ◌+◌, ◌-◌, ◌<◌, ◌≤◌, List, [], ◌∷◌, ◌++◌, length, refl, ap, sym, ◌∙◌, subst, Option, None, Some, slice_get, arith, ◌⊎◌, inl, inr}
+use Rattle.std.proofs.Common.{◌≡◌, ℕ, zero, suc, ◌+◌, ◌<◌, ◌≤◌, List, [], ◌∷◌, ◌++◌, length, refl, ap, sym, ◌∙◌, subst, Option, None, Some, slice_get, arith, ◌⊎◌, inl, inr}
 use Rattle.std.proofs.lemmas.Bool.{cases_lt}
-use Rattle.std.proofs.Math.Numerals.{add-one}
-use Rattle.py_base.specs.declared.ids.NameId.{NameId}
 use Rattle.py_base.specs.declared.ids.NodeId.{NodeId}
 use Rattle.py_base.specs.declared.ids.RefId.{RefId}
 use Rattle.py_base.specs.declared.node.Node.{Node}
@@ -10,13 +8,13 @@ use Rattle.py_base.specs.Tree.{Arena, AreOlder, IsLinked}
 use Rattle.py_base.specs.TreeLaws.{AreLinked-at, AreOlder-later}
 use Rattle.py_scopes.specs.declared.owner.Owner.{Owner}
 use Rattle.py_scopes.specs.Occurrences.{name_of}
-use Rattle.flow_forms.specs.Clauses.{kind_at, parts_at, parts_or}
+use Rattle.py_base.specs.Nodes.{kind_at, parts_at, parts_or_none}
 use Rattle.node_references.specs.Reference.{Reference}
 use Rattle.node_references.specs.declared.shape.Shape.{Shape}
 use Rattle.node_references.specs.declared.shape.Shape.TheVariants as shapes
 use Rattle.node_references.specs.References.{Sort, a_name, an_attribute, in_brackets, a_match, another, sort, shaped, shape_at, of_attribute, by_shape, within, reference_of}
 use Rattle.node_references.specs.Numbers.{flat, IsNumberOf}
-use Rattle.node_references.specs.Numbering.{Keeps, AreNumbersOf, IsPartBelow, AreKnownBelow, AreKnown}
+use Rattle.node_references.specs.Numbering.{Keeps, GrowsBy, AreOfNodes, AreNumbersOf, IsPartBelow, AreKnownBelow, AreKnown}
 use Rattle.node_references.proofs.Links.{number_kept, number_below, get_last}
 
 -- the part of a shape is an older node
@@ -40,7 +38,7 @@ shaped_older n another parts h = tt
 parts_older : (a : Arena) (n : NodeId) → IsLinked a → AreOlder n.0 (parts_at a.nodes n)
 parts_older a n linked = go (slice_get a.nodes n.0) refl
   where
-    go : (found : Option Node) → slice_get a.nodes n.0 ≡ found → AreOlder n.0 (parts_or found)
+    go : (found : Option Node) → slice_get a.nodes n.0 ≡ found → AreOlder n.0 (parts_or_none found)
     go None e = tt
     go (Some node) e = AreOlder-later (0 + n.0) n.0 node.parts (omega arith) (AreLinked-at (length a.names) 0 n.0 a.nodes node linked e).0
 
@@ -114,6 +112,28 @@ known_here a os new table more n x linked long is pushed =
     subst (λ (y : Option RefId). IsNumberOf new y (reference_of a os n)) (sym found)
     (subst (λ (r : Option Reference). IsNumberOf new x r) (sym (reference_step a os n linked)) is)
 
+-- the references of one more node
+number_one : (list : List Reference) (x : Option RefId) (q : Reference) (r : Option Reference) → IsNumberOf list x (Some q) → IsNumberOf list x r → r ≡ Some q
+number_one list None q r h g = absurd h
+number_one list (Some id) q None h g = absurd g
+number_one list (Some id) q (Some r) h g = sym g ∙ h
+
+pub of_nodes_more : (a : Arena) (os : List Owner) (list new : List Reference) (n : NodeId) (x : Option RefId) → AreOfNodes a os list n.0
+    → GrowsBy list new x → IsNumberOf new x (reference_of a os n) → AreOfNodes a os new (n.0 + 1)
+of_nodes_more a os list new n x each grows is i r at = elim (grows i r at) [
+  | inl old ↦ let (m, lt, of) = each i r old in (m, omega arith, of)
+  | inr last ↦ (n, omega arith, number_one new x r (reference_of a os n) last is)
+]
+
+-- the number of one more node, by those of its parts
+pub number_here : (a : Arena) (os : List Owner) (list new : List Reference) (table : List (Option RefId)) (n : NodeId) (x : Option RefId) → IsLinked a
+    → AreKnownBelow a os list table n.0
+    → ((inner : NodeId → Option Reference) → AreNumbersOf list table (shape_at a n) inner → IsNumberOf new x (by_shape inner a os n (shape_at a n)))
+    → IsNumberOf new x (reference_of a os n)
+number_here a os list new table n x linked known numbered =
+    subst (λ (r : Option Reference). IsNumberOf new x r) (sym (reference_step a os n linked))
+    (numbered (reference_of a os) (parts_known a os list table n.0 (shape_at a n) (shape_older a n linked) known))
+
 -- one more node
 pub known_more : (a : Arena) (os : List Owner) (list new : List Reference) (table more : List (Option RefId)) (n : NodeId) (x : Option RefId) → IsLinked a
     → length table ≡ n.0 → AreKnownBelow a os list table n.0 → Keeps list new
@@ -138,22 +158,3 @@ known_all a os list table long known n = elim (cases_lt n.0 (length a.nodes)) [
   | inl lt ↦ known n lt
   | inr ge ↦ rw (get_none table n.0 (rw long ge), reference_none a os n (get_none a.nodes n.0 ge)) tt
 ]
-
--- a depth that is not none, by the shape of the node
-step : (left : ℕ) (a : Arena) (os : List Owner) (n : NodeId) → (left ≡ 0 → ⊥) → within left a os n ≡ by_shape (within (left - 1) a os) a os n (shape_at a n)
-step zero a os n h = absurd (h refl)
-step (suc left) a os n h =
-    let e : suc left - 1 ≡ left = omega arith in
-    ap (λ (k : ℕ). by_shape (within k a os) a os n (shape_at a n)) (sym e)
-
-pub attribute_step : (left : ℕ) (a : Arena) (os : List Owner) (n p : NodeId) (before : Option Reference) (name : Option NameId) → (left ≡ 0 → ⊥)
-    → shape_at a n ≡ shapes.Attribute p → before ≡ within (left - 1) a os p → name ≡ name_of a n → within left a os n ≡ of_attribute before name
-attribute_step left a os n p before name h shaped e f = rw (step left a os n h, shaped, e, f) refl
-
-pub group_step : (left : ℕ) (a : Arena) (os : List Owner) (n p : NodeId) → (left ≡ 0 → ⊥)
-    → shape_at a n ≡ shapes.Group p → within left a os n ≡ within (left - 1) a os p
-group_step left a os n p h shaped = rw (step left a os n h, shaped) refl
-
-pub whole_depth : (a : Arena) (os : List Owner) (n : NodeId) → within (n.0 + 1) a os n ≡ reference_of a os n
-unfolding reference_of
-whole_depth a os n = rw (add-one n.0) refl

@@ -4,3 +4,4 @@ pub mod References
 pub mod Chains
 pub mod Numbers
 pub mod Numbering
+pub mod Casts

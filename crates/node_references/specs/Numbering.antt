@@ -1,7 +1,8 @@
 -- What stands while the references are numbered (for proofs alone: no caller sees a link).
-use Rattle.std.specs.Prelude.{ℕ, ◌≡◌, ◌<◌, List, Option, None, Some, slice_get, length}
+use Rattle.std.specs.Prelude.{ℕ, ◌≡◌, ◌<◌, ◌⊎◌, List, Option, None, Some, slice_get, length}
 use Rattle.py_base.specs.declared.ids.NodeId.{NodeId}
 use Rattle.py_base.specs.declared.ids.RefId.{RefId}
+use Rattle.py_base.specs.declared.ids.NameId.{NameId}
 use Rattle.py_base.specs.Tree.{Arena}
 use Rattle.py_scopes.specs.declared.owner.Owner.{Owner}
 use Rattle.node_references.specs.Reference.{Reference}
@@ -16,6 +17,10 @@ use Rattle.node_references.specs.Numbers.{AreApart, IsNumberOf, flat}
 abbrev pub Keeps : List Reference → List Reference → Type 0
 Keeps old new = (i : ℕ) (r : Reference) → slice_get old i ≡ Some r → slice_get new i ≡ Some r
 
+-- nothing but the reference of a number came to the list
+abbrev pub GrowsBy : List Reference → List Reference → Option RefId → Type 0
+GrowsBy old new id = (i : ℕ) (r : Reference) → slice_get new i ≡ Some r → (slice_get old i ≡ Some r) ⊎ IsNumberOf new id (Some r)
+
 -- the reference before the last name is one of the first so many
 abbrev pub IsWithin : ℕ → Link → Type 0
 IsWithin n (links.Root root) = Unit {0}
@@ -25,6 +30,11 @@ IsWithin n (links.Member id name) = id.0 < n
 abbrev pub IsOf : List Reference → Link → Reference → Type 0
 IsOf list (links.Root root) r = r ≡ bare root
 IsOf list (links.Member id name) r = (q : Reference) × (slice_get list id.0 ≡ Some q) × (r ≡ member q name)
+
+-- what a link adds its name to, and the name
+abbrev pub prefix_of : Link → Option (RefId × NameId)
+prefix_of (links.Root root) = None
+prefix_of (links.Member id name) = Some (id, name)
 
 -- each number has a link and its reference, and no two have one
 pub record AreLinked (keys : List Link) (list : List Reference) : Type 0 where
@@ -52,6 +62,10 @@ IsPartBelow count table (shapes.Attribute p) = IsBelow count (flat (slice_get ta
 IsPartBelow count table (shapes.Group p) = IsBelow count (flat (slice_get table p.0))
 IsPartBelow count table shapes.Match = Unit {0}
 IsPartBelow count table shapes.Other = Unit {0}
+
+-- each reference is that of one of the nodes before a number
+abbrev pub AreOfNodes : Arena → List Owner → List Reference → ℕ → Type 0
+AreOfNodes a os list count = (i : ℕ) (r : Reference) → slice_get list i ≡ Some r → (n : NodeId) × (n.0 < count) × (reference_of a os n ≡ Some r)
 
 -- the numbers of the references that the nodes before a number stand for
 abbrev pub AreKnownBelow : Arena → List Owner → List Reference → List (Option RefId) → ℕ → Type 0

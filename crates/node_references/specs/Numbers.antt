@@ -1,6 +1,7 @@
 -- References by their numbers (numbers are this project's own; no standard speaks of them).
-use Rattle.std.specs.Prelude.{ℕ, ◌≡◌, List, Option, None, Some, slice_get, length}
+use Rattle.std.specs.Prelude.{ℕ, ◌≡◌, ◌<◌, List, [], Option, None, Some, slice_get, length}
 use Rattle.py_base.specs.declared.ids.NodeId.{NodeId}
+use Rattle.py_base.specs.declared.ids.NameId.{NameId}
 use Rattle.py_base.specs.declared.ids.RefId.{RefId}
 use Rattle.py_base.specs.declared.ids.SymId.{SymId}
 use Rattle.py_base.specs.Tree.{Arena}
@@ -9,7 +10,7 @@ use Rattle.node_references.specs.declared.reference.Root.{Root}
 use Rattle.node_references.specs.declared.reference.Root.TheVariants as roots
 use Rattle.node_references.specs.Reference.{Reference}
 use Rattle.node_references.specs.declared.referred.NodeReferences.{NodeReferences}
-use Rattle.node_references.specs.References.{reference_of}
+use Rattle.node_references.specs.References.{member, reference_of}
 
 abbrev pub symbol_of : Root → Option SymId
 symbol_of (roots.Symbol s) = Some s
@@ -30,8 +31,16 @@ IsNumberOf list None (Some r) = ⊥
 IsNumberOf list (Some id) None = ⊥
 IsNumberOf list (Some id) (Some r) = slice_get list id.0 ≡ Some r
 
--- THE REFERENCES THAT THE NODES OF A TREE STAND FOR: each has one number, and each node has the number of the reference that it stands for
+-- the reference before the last name of another, and that name; a bare one has none
+abbrev pub IsPrefixOf : List Reference → Option (RefId × NameId) → Reference → Type 0
+IsPrefixOf list None r = r.names ≡ []
+IsPrefixOf list (Some x) r = (q : Reference) × (slice_get list x.0.0 ≡ Some q) × (r ≡ member q x.1)
+
+-- THE REFERENCES THAT THE NODES OF A TREE STAND FOR, and no others: each has one number, with each the one before its last name, and each node has
+-- the number of the reference that it stands for
 pub record AreNodeReferences (a : Arena) (os : List Owner) (r : NodeReferences) : Type 0 where
   pub apart : AreApart r.list
+  pub prefixes : (i : ℕ) (one : Reference) → slice_get r.list i ≡ Some one → IsPrefixOf r.list (flat (slice_get r.prefixes i)) one
+  pub each : (i : ℕ) (one : Reference) → slice_get r.list i ≡ Some one → (n : NodeId) × (n.0 < length a.nodes) × (reference_of a os n ≡ Some one)
   pub long : length r.numbers ≡ length a.nodes
   pub exact : (n : NodeId) → IsNumberOf r.list (flat (slice_get r.numbers n.0)) (reference_of a os n)

@@ -9,7 +9,7 @@ use Rattle.py_base.specs.Tree.{Arena}
 use Rattle.py_scopes.specs.declared.owner.Owner.{Owner}
 use Rattle.py_scopes.specs.declared.owner.Owner.TheVariants as owners
 use Rattle.py_scopes.specs.Occurrences.{name_of}
-use Rattle.flow_forms.specs.Clauses.{kind_at, parts_at}
+use Rattle.py_base.specs.Nodes.{kind_at, parts_at}
 use Rattle.node_references.specs.declared.reference.Root.{Root}
 use Rattle.node_references.specs.declared.reference.Root.TheVariants as roots
 use Rattle.node_references.specs.Reference.{Reference}

@@ -2,14 +2,13 @@
 ghost use Rattle.std.specs.Prelude.{◌≡◌};
 ghost use Rattle.py_scopes.specs.Occurrences.{name_of};
 
-use flow_forms::node_at;
 use py_base::{NameId, NodeId, Tree, Word};
 
 /// The name that the word of a node is, `None` where it is none; a number that is no node's has no name.
 pub fn name_of(tree: &Tree, node: NodeId) -> Option<NameId>
     ensures { result ≡ name_of tree.now node }
 {
-    match node_at(tree, node) {
+    match tree.get(node) {
         None => None,
         Some(node) => match node.word {
             Word::Name(name) => Some(name),

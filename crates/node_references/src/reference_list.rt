@@ -180,35 +180,3 @@ impl ReferenceList {
         Ok(())
     }
 }
-
-#[cfg(test)]
-mod tests {
-    use super::*;
-    use py_base::SymId;
-    use std::test::Fail;
-
-    const SPELLED: [NameId; 5] = [NameId(1), NameId(2), NameId(1), NameId(3), NameId(4)];
-
-    // Adds an attribute of a reference that is in the list.
-    fn add(list: &mut ReferenceList, of: u32, name: u32) -> Result<(), NoMemory> {
-        if (of as usize) >= list.len() {
-            return Err(NoMemory);
-        }
-        list.push_member(RefId(of), NameId(name))
-    }
-
-    // `x.a.b` and `x.a.c.d`: the names are a, b, and a, c, d.
-    #[test]
-    fn names_are_shared(rt: HostRuntime) -> Result<(), Fail> {
-        let mut list = ReferenceList::new(rt.alloc());
-        list.push_root(Root::Symbol(SymId(0)))?;
-        add(&mut list, 0, 1)?;
-        add(&mut list, 1, 2)?;
-        assert_eq!(rt; list.names.len(), 2);
-        add(&mut list, 1, 3)?;
-        add(&mut list, 3, 4)?;
-        assert_eq!(rt; list.names.as_slice(), SPELLED.as_slice());
-        assert_eq!(rt; list.len(), 5);
-        Ok(())
-    }
-}

@@ -1,18 +1,17 @@
 //! The references that the nodes of a tree stand for.
-ghost use Rattle.std.specs.Prelude.{◌≡◌, ◌<◌, Option, IfOk, OnOk, Some, slice_get, length};
+ghost use Rattle.std.specs.Prelude.{◌≡◌, ◌<◌, [], Option, IfOk, OnOk, Some, slice_get, length};
 ghost use Rattle.py_base.specs.declared.ids.NodeId.{NodeId};
 ghost use Rattle.node_references.specs.Reference.{Reference};
 ghost use Rattle.std.specs.Option.{option_copied};
 ghost use Rattle.node_references.specs.References.{of_owner, of_attribute, by_shape};
 ghost use Rattle.node_references.specs.Numbers.{flat, IsNumberOf, AreNodeReferences};
-ghost use Rattle.node_references.specs.Numbering.{Keeps, AreLinked, AreNumbersOf, IsBelow, IsPartBelow, AreKnown};
+ghost use Rattle.node_references.specs.Numbering.{Keeps, GrowsBy, AreOfNodes, AreLinked, AreNumbersOf, IsBelow, IsPartBelow, AreKnown};
 
 use crate::nodes::name_of;
-use crate::numbering::{Link, Numbering, number};
+use crate::numbering::{Link, Numbering, number, prefixes};
 use crate::reference::Root;
 use crate::reference_list::ReferenceList;
 use crate::shape::{Shape, shape_of};
-use flow_forms::{kind_of, parts_of};
 use indexmap::IndexSet;
 use py_base::{List, NameId, NoMemory, NodeId, RefId, SymId, Tree};
 use py_scopes::{Owner, Scopes};
@@ -23,6 +22,8 @@ use std::alloc::Global;
 pub struct NodeReferences {
     /// The references by their numbers, each once.
     pub list: ReferenceList,
+    /// For each of these, where names stand behind its root, the one before its last name, and that name.
+    pub prefixes: List<Option<(RefId, NameId)>>,
     /// For each node the number of the reference that it stands for, if it stands for one.
     pub numbers: List<Option<RefId>>,
 }
@@ -43,6 +44,7 @@ fn number_of_name(owner: Owner, numbering: &mut Numbering) -> Result<Option<RefI
     ensures at { IfOk result (λ id. IsNumberOf numbering.new.list id (of_owner (Some owner))) }
     ensures keeps { OnOk result (Keeps numbering.old.list numbering.new.list) }
     ensures linked { OnOk result (AreLinked numbering.new.links.keys numbering.new.list) }
+    ensures alone { IfOk result (λ id. GrowsBy numbering.old.list numbering.new.list id) }
 {
     match owner {
         Owner::Local(symbol) | Owner::Outer(symbol) => {
@@ -64,6 +66,7 @@ fn number_of_attribute(
     ensures at { IfOk result (λ id. (r : Option Reference) → IsNumberOf numbering.old.list before r → IsNumberOf numbering.new.list id (of_attribute r name)) }
     ensures keeps { OnOk result (Keeps numbering.old.list numbering.new.list) }
     ensures linked { OnOk result (AreLinked numbering.new.links.keys numbering.new.list) }
+    ensures alone { IfOk result (λ id. GrowsBy numbering.old.list numbering.new.list id) }
 {
     match (before, name) {
         (Some(before), Some(name)) => Ok(Some(number(numbering, Link::Member(before, name))?)),
@@ -86,6 +89,7 @@ fn number_of_shape(
     ensures at { IfOk result (λ id. (inner : NodeId → Option Reference) → AreNumbersOf numbering.old.list table.now shape inner → IsNumberOf numbering.new.list id (by_shape inner tree.now scopes.now.owners node shape)) }
     ensures keeps { OnOk result (Keeps numbering.old.list numbering.new.list) }
     ensures linked { OnOk result (AreLinked numbering.new.links.keys numbering.new.list) }
+    ensures alone { IfOk result (λ id. GrowsBy numbering.old.list numbering.new.list id) }
 {
     match shape {
         Shape::Name => number_of_name(scopes.owner(node), numbering),
@@ -114,11 +118,12 @@ fn referred(
     ensures long { IfOk result (λ table. length table ≡ length tree.now.nodes) }
     ensures known { IfOk result (λ table. AreKnown tree.now scopes.now.owners numbering.new.list table) }
     ensures linked { OnOk result (AreLinked numbering.new.links.keys numbering.new.list) }
+    ensures each { OnOk result (numbering.old.list ≡ [] → AreOfNodes tree.now scopes.now.owners numbering.new.list (length tree.now.nodes)) }
 {
     let mut table = List::new(alloc);
     for place in 0..tree.node_count() {
         let node = NodeId(place as u32);
-        let shape = shape_of(kind_of(tree, node), parts_of(tree, node));
+        let shape = shape_of(tree.kind(node), tree.parts(node));
         let id = number_of_shape(tree, scopes, table.as_slice(), node, shape, numbering)?;
         table.push(id)?;
     }
@@ -141,8 +146,10 @@ pub fn node_references(
         list: ReferenceList::new(alloc),
     };
     let numbers = referred(alloc, tree, scopes, &mut numbering)?;
+    let prefixes = prefixes(alloc, numbering.links.as_slice())?;
     Ok(NodeReferences {
         list: numbering.list,
+        prefixes,
         numbers,
     })
 }

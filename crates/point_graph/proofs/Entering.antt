@@ -4,10 +4,10 @@ use borrow.Author.Tests.{eqb-true}
 use Rattle.std.proofs.lemmas.List.{take_more}
 use Rattle.py_base.specs.declared.ids.GraphId.{GraphId}
 use Rattle.py_base.specs.declared.ids.PointId.{PointId}
-use Rattle.flow_points.specs.declared.point.Point.{Point}
-use Rattle.flow_points.specs.declared.edge.Edge.{Edge}
-use Rattle.flow_edges.specs.Flow.{Has}
-use Rattle.flow_edges.proofs.Flowing.{has_split, has_left, has_right}
+use Rattle.flow_rows.specs.declared.point.Point.{Point}
+use Rattle.flow_rows.specs.declared.edge.Edge.{Edge}
+use Rattle.flow_rows.specs.Flow.{Has}
+use Rattle.flow_rows.proofs.Flowing.{has_split, has_left, has_right}
 use Rattle.point_graph.specs.declared.numbers.Step.{Step}
 use Rattle.point_graph.specs.Numbers.{IsApart, Keeps, IsNumber, IsStep}
 use Rattle.point_graph.specs.Building.{GrowsTo, IsListOf, TakesAlone, IsNumbering, Enters, Joins, AreMore}

@@ -7,12 +7,12 @@ use Rattle.std.proofs.lemmas.Bool.{cases_lt}
 use Rattle.std.proofs.Math.Nat.{eq-or-lt_of_le}
 use Rattle.std.proofs.lemmas.Map.Keys.{apart_from_distinct}
 use Rattle.indexmap.specs.IndexSet.{insert_key}
-use Rattle.flow_points.specs.declared.point.Point.{Point}
-use Rattle.flow_points.specs.contracts.point.PointPartialEq.TheImpl.{eq-value}
-use Rattle.flow_edges.specs.Flow.{Has}
+use Rattle.flow_rows.specs.declared.point.Point.{Point}
+use Rattle.flow_rows.specs.contracts.point.PointPartialEq.TheImpl.{eq-value}
+use Rattle.flow_rows.specs.Flow.{Has}
 use Rattle.point_graph.specs.Numbers.{IsApart, Keeps}
 use Rattle.point_graph.specs.Building.{GrowsTo}
-use Rattle.flow_edges.proofs.Flowing.{has_split, has_left, has_right}
+use Rattle.flow_rows.proofs.Flowing.{has_split, has_left, has_right}
 
 -- `==` of points is true of a point and itself
 pub same_self : (p : Point) → eq-value.it p p ≡ true

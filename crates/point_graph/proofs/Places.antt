@@ -2,9 +2,9 @@
 use Rattle.std.proofs.Common.{◌≡◌, ℕ, ◌<◌, List, Option, None, Some, IfSome, slice_get}
 use Rattle.py_base.specs.declared.ids.NodeId.{NodeId}
 use Rattle.py_base.specs.declared.ids.PointId.{PointId}
-use Rattle.flow_points.specs.declared.point.Point.{Point}
-use Rattle.flow_points.specs.Points.{own}
-use Rattle.flow_edges.specs.Flow.{Has}
+use Rattle.flow_rows.specs.declared.point.Point.{Point}
+use Rattle.flow_rows.specs.Points.{own}
+use Rattle.flow_rows.specs.Flow.{Has}
 use Rattle.point_graph.specs.Numbers.{IsNumber}
 use Rattle.point_graph.specs.Operands.{IsPointAt, of_operand}
 

@@ -2,13 +2,13 @@
 use Rattle.std.proofs.Common.{◌≡◌, ℕ, ◌<◌, ◌+◌, List, [], ◌∷◌, ◌++◌, refl, ap, sym, subst, ◌⊎◌, inl, inr, arith}
 use Rattle.std.proofs.lemmas.Bool.{cases_lt}
 use Rattle.py_base.specs.declared.ids.NodeId.{NodeId}
-use Rattle.flow_points.specs.declared.point.Point.{Point}
-use Rattle.flow_points.specs.declared.edge.Edge.{Edge}
-use Rattle.flow_points.specs.declared.edge.EdgeKind.TheVariants as kinds
-use Rattle.flow_points.specs.declared.form.Form.{Form}
-use Rattle.flow_points.specs.Points.{edge, own, start}
-use Rattle.flow_edges.specs.Flow.{Has, HasGraph}
-use Rattle.flow_edges.proofs.Flowing.{has_split, has_left, has_right}
+use Rattle.flow_rows.specs.declared.point.Point.{Point}
+use Rattle.flow_rows.specs.declared.edge.Edge.{Edge}
+use Rattle.flow_rows.specs.declared.edge.EdgeKind.TheVariants as kinds
+use Rattle.flow_rows.specs.declared.form.Form.{Form}
+use Rattle.flow_rows.specs.Points.{edge, own, start}
+use Rattle.flow_rows.specs.Flow.{Has, HasGraph}
+use Rattle.flow_rows.proofs.Flowing.{has_split, has_left, has_right}
 use Rattle.point_graph.specs.declared.numbers.Step.{Step}
 use Rattle.point_graph.specs.Numbers.{IsNumber, IsStep}
 use Rattle.point_graph.specs.Building.{AreMore, IsStartOf, IsStartBelow}

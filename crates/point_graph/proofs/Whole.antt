@@ -6,12 +6,12 @@ use Rattle.smallvec.specs.SmallVec.{SmallVec}
 use Rattle.py_base.specs.declared.ids.NodeId.{NodeId}
 use Rattle.py_base.specs.declared.ids.GraphId.{GraphId}
 use Rattle.py_base.specs.declared.ids.PointId.{PointId}
-use Rattle.flow_points.specs.declared.point.Point.{Point}
-use Rattle.flow_points.specs.declared.edge.EdgeKind.{EdgeKind}
-use Rattle.flow_points.specs.declared.form.Form.{Form}
-use Rattle.flow_points.specs.Points.{start}
+use Rattle.flow_rows.specs.declared.point.Point.{Point}
+use Rattle.flow_rows.specs.declared.edge.EdgeKind.{EdgeKind}
+use Rattle.flow_rows.specs.declared.form.Form.{Form}
+use Rattle.flow_rows.specs.Points.{start}
 use Rattle.flow_rows.specs.declared.ends.Ends.{Ends}
-use Rattle.flow_edges.specs.Flow.{Has, HasRun, run_by, HasGraph, IsPoint, IsEdge}
+use Rattle.flow_rows.specs.Flow.{Has, HasRun, run_by, HasGraph, IsPoint, IsEdge}
 use Rattle.point_graph.specs.declared.numbers.Step.{Step}
 use Rattle.point_graph.specs.declared.incoming.Way.{Way}
 use Rattle.point_graph.specs.declared.members.Members.{Members}
@@ -55,6 +55,11 @@ steps_whole forms t points homes steps new_steps graphs d more = record {
   ];
 }
 
+-- a draft by another reading of the table
+pub draft_by : (forms : List Form) (t seen : List Ends) (n : ℕ) (points : List Point) (homes : List GraphId) (steps : List Step) (graphs : List (Option Members))
+    → seen ≡ t → IsDraft forms seen n points homes steps graphs → IsDraft forms t n points homes steps graphs
+draft_by forms t seen n points homes steps graphs e d = subst (λ (l : List Ends). IsDraft forms l n points homes steps graphs) e d
+
 pub graph_whole : (forms : List Form) (t : List Ends) (g : Numbered) (steps new_steps : List Step) (ways : List (SmallVec Way)) (count : ℕ)
     → IsDraft forms t (length forms) g.points g.homes steps g.graphs
     → AreMore g.points (IsStartBelow forms g.points (length forms)) steps new_steps
@@ -62,14 +67,15 @@ pub graph_whole : (forms : List Form) (t : List Ends) (g : Numbered) (steps new_
     → ((j : ℕ) → j < count → list_at (lists ways) j ≡ into j new_steps)
     → g.antecedents ≡ map (λ (ws : List Way). map (λ (w : Way). w.from) ws) (lists ways)
     → g.kinds ≡ map (λ (ws : List Way). map (λ (w : Way). w.kind) ws) (lists ways)
-    → g.operands ≡ operands_of forms
+    → g.operands ≡ operands_of forms → g.ends ≡ t
     → AreNumbered forms t g
-graph_whole forms t g steps new_steps ways count d more counted long at sources labels operands = record {
+graph_whole forms t g steps new_steps ways count d more counted long at sources labels operands ends = record {
   apart = d.numbering.apart;
   points = λ p. (λ h. (points_whole forms t p).0 ((d.exact p).0 h), λ h. (d.exact p).1 ((points_whole forms t p).1 h));
   graphs = d.each;
   homes = (d.numbering.long, d.home);
   operands = operands;
+  ends = ends;
   ways = lists ways;
   long = length-map ways (λ (v : SmallVec Way). v.items) ∙ long ∙ counted;
   sources = sources;
@@ -136,10 +142,10 @@ pub graph_closed : (forms : List Form) (t : List Ends) (g : Numbered) (steps new
     → ((j : ℕ) → j < count → list_at (lists ways) j ≡ into j new_steps)
     → g.antecedents ≡ map (λ (ws : List Way). map (λ (w : Way). w.from) ws) (lists ways)
     → g.kinds ≡ map (λ (ws : List Way). map (λ (w : Way). w.kind) ws) (lists ways)
-    → g.operands ≡ operands_of forms
+    → g.operands ≡ operands_of forms → g.ends ≡ t
     → IsClosed g
-graph_closed forms t g steps new_steps ways count d more counted long at sources labels operands =
-    closed forms t g (graph_whole forms t g steps new_steps ways count d more counted long at sources labels operands) d.numbering.few
+graph_closed forms t g steps new_steps ways count d more counted long at sources labels operands ends =
+    closed forms t g (graph_whole forms t g steps new_steps ways count d more counted long at sources labels operands ends) d.numbering.few
 
 -- the list at a number is that at its run
 pub part_at : {A : Type 0} (xs : List A) (runs : List Run) (j : ℕ) (r : Run) → slice_get runs j ≡ Some r → slice_get (parts xs runs) j ≡ Some (part xs r)

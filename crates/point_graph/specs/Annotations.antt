@@ -6,9 +6,9 @@ use Rattle.py_base.specs.declared.node.Node.{Node}
 use Rattle.py_base.specs.declared.node.NodeKind.{NodeKind}
 use Rattle.py_base.specs.declared.node.NodeKind.TheVariants as kinds
 use Rattle.py_base.specs.Tree.{Arena}
-use Rattle.flow_points.specs.declared.form.Form.{Form}
-use Rattle.flow_points.specs.declared.form.Form.TheVariants as forms
-use Rattle.flow_forms.specs.Clauses.{kind_at}
+use Rattle.flow_rows.specs.declared.form.Form.{Form}
+use Rattle.flow_rows.specs.declared.form.Form.TheVariants as forms
+use Rattle.py_base.specs.Nodes.{kind_at}
 use Rattle.flow_forms.specs.Forms.{forms_of}
 
 -- a plain argument: no star stands before it, and no keyword

@@ -4,13 +4,13 @@ use Rattle.std.specs.Prelude.{ℕ, ◌≡◌, ◌<◌, ◌+◌, ◌^◌, List, O
 use Rattle.py_base.specs.declared.ids.NodeId.{NodeId}
 use Rattle.py_base.specs.declared.ids.GraphId.{GraphId}
 use Rattle.py_base.specs.declared.ids.PointId.{PointId}
-use Rattle.flow_points.specs.declared.point.Point.{Point}
-use Rattle.flow_points.specs.declared.edge.Edge.{Edge}
-use Rattle.flow_points.specs.declared.edge.EdgeKind.TheVariants as kinds
-use Rattle.flow_points.specs.declared.form.Form.{Form}
-use Rattle.flow_points.specs.Points.{edge, own, start}
+use Rattle.flow_rows.specs.declared.point.Point.{Point}
+use Rattle.flow_rows.specs.declared.edge.Edge.{Edge}
+use Rattle.flow_rows.specs.declared.edge.EdgeKind.TheVariants as kinds
+use Rattle.flow_rows.specs.declared.form.Form.{Form}
+use Rattle.flow_rows.specs.Points.{edge, own, start}
 use Rattle.flow_rows.specs.declared.ends.Ends.{Ends}
-use Rattle.flow_edges.specs.Flow.{Has, run_at, HasGraph, IsEdgeOf, IsPointOf}
+use Rattle.flow_rows.specs.Flow.{Has, run_at, HasGraph, IsEdgeOf, IsPointOf}
 use Rattle.point_graph.specs.declared.numbers.Step.{Step}
 use Rattle.point_graph.specs.declared.members.Members.{Members}
 use Rattle.point_graph.specs.Numbers.{IsApart, Keeps, IsNumber, IsStep}

@@ -1,17 +1,19 @@
 -- The graphs of a tree, by numbers: which number has which point, which edges lead to it, and which graph it is of (the edges are those of
 -- the flow; Python 3.12 language reference, sections 6 to 8).
-use Rattle.std.specs.Prelude.{ℕ, Bool, ◌≡◌, ◌<◌, ◌^◌, List, [], Option, None, Some, slice_get, map, length, ◌↔◌}
+use Rattle.std.specs.Prelude.{ℕ, Bool, true, false, ◌≡◌, ◌<◌, ◌^◌, List, [], Option, None, Some, slice_get, map, length, ◌↔◌}
+use Rattle.std.specs.List.{position}
 use Rattle.py_base.specs.declared.ids.NodeId.{NodeId}
 use Rattle.py_base.specs.declared.ids.GraphId.{GraphId}
 use Rattle.py_base.specs.declared.ids.PointId.{PointId}
 use Rattle.py_base.specs.Tree.{Arena}
-use Rattle.flow_points.specs.declared.point.Point.{Point}
-use Rattle.flow_points.specs.declared.edge.EdgeKind.{EdgeKind}
-use Rattle.flow_points.specs.declared.form.Form.{Form}
-use Rattle.flow_points.specs.Points.{edge}
+use Rattle.flow_rows.specs.declared.point.Point.{Point}
+use Rattle.flow_rows.specs.declared.edge.EdgeKind.{EdgeKind}
+use Rattle.flow_rows.specs.declared.edge.EdgeKind.TheVariants as edges
+use Rattle.flow_rows.specs.declared.form.Form.{Form}
+use Rattle.flow_rows.specs.Points.{edge}
 use Rattle.flow_rows.specs.declared.ends.Ends.{Ends}
 use Rattle.flow_rows.specs.Ends.{ends_table}
-use Rattle.flow_edges.specs.Flow.{Has, IsPoint, IsEdge}
+use Rattle.flow_rows.specs.Flow.{Has, IsPoint, IsEdge}
 use Rattle.point_graph.specs.declared.incoming.Way.{Way}
 use Rattle.point_graph.specs.declared.members.Members.{Members}
 use Rattle.point_graph.specs.Annotations.{run_forms}
@@ -20,7 +22,7 @@ use Rattle.point_graph.specs.Numbers.{IsApart, IsNumber, AreWithin, list_at}
 use Rattle.point_graph.specs.Operands.{operands_of}
 
 -- what the clauses of `PointGraph` see: the points by their numbers, for each number where edges to it come from, and their kinds, the points
--- of the graph of each node, the graph of each point, and the operand of each node
+-- of the graph of each node, the graph of each point, and of each node the operand and the first and last point
 pub record Numbered : Type 0 where
   pub points : List Point
   pub antecedents : List (List PointId)
@@ -28,6 +30,7 @@ pub record Numbered : Type 0 where
   pub graphs : List (Option Members)
   pub homes : List GraphId
   pub operands : List (Option NodeId)
+  pub ends : List Ends
 
 -- Just the points of the graphs have numbers, each one. The ways to a number are the edges that lead to its point: place by place, where
 -- each comes from, and its kind.
@@ -37,6 +40,7 @@ pub record AreNumbered (forms : List Form) (t : List Ends) (g : Numbered) : Type
   pub graphs : AreGraphs forms t g.points (length forms) g.graphs
   pub homes : AreHomes g.graphs (length g.points) g.homes
   pub operands : g.operands ≡ operands_of forms
+  pub ends : g.ends ≡ t
   pub ways : List (List Way)
   pub long : length ways ≡ length g.points
   pub sources : g.antecedents ≡ map (λ (ws : List Way). map (λ (w : Way). w.from) ws) ways
@@ -74,6 +78,18 @@ points_or at = []
 abbrev pub end_or : Option (Option Members) → PointId
 end_or (Some (Some m)) = m.end
 end_or at = record { 0 = 0 }
+
+-- where the first call edge among those that lead to a point comes from
+abbrev pub is_call : EdgeKind → Bool
+is_call (edges.Call n) = true
+is_call kind = false
+
+abbrev pub item_at : {A : Type 0} → List A → Option ℕ → Option A
+item_at xs None = None
+item_at xs (Some i) = slice_get xs i
+
+abbrev pub call_source : List PointId → List EdgeKind → Option PointId
+call_source sources kinds = item_at sources (position is_call kinds)
 
 -- the graph of a point, and number 0 where there is no such point
 abbrev pub home_or : Option GraphId → GraphId

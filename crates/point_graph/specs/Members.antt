@@ -4,11 +4,11 @@ use Rattle.std.specs.Prelude.{ℕ, ◌≡◌, ◌≤◌, List, Option, None, Som
 use Rattle.py_base.specs.declared.ids.NodeId.{NodeId}
 use Rattle.py_base.specs.declared.ids.GraphId.{GraphId}
 use Rattle.py_base.specs.declared.ids.PointId.{PointId}
-use Rattle.flow_points.specs.declared.point.Point.{Point}
-use Rattle.flow_points.specs.declared.form.Form.{Form}
-use Rattle.flow_points.specs.Points.{start}
+use Rattle.flow_rows.specs.declared.point.Point.{Point}
+use Rattle.flow_rows.specs.declared.form.Form.{Form}
+use Rattle.flow_rows.specs.Points.{start}
 use Rattle.flow_rows.specs.declared.ends.Ends.{Ends}
-use Rattle.flow_edges.specs.Flow.{Has, run_at, end_point, IsPointOf}
+use Rattle.flow_rows.specs.Flow.{Has, run_at, end_point, IsPointOf}
 use Rattle.point_graph.specs.declared.members.Members.{Members}
 use Rattle.point_graph.specs.Numbers.{IsApart, IsNumber}
 

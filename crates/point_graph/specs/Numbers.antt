@@ -3,9 +3,9 @@
 use Rattle.std.specs.Prelude.{ℕ, ◌≡◌, ◌<◌, List, [], ◌∷◌, Some, slice_get, slice_index_or, map, cond, nat_eq}
 use Rattle.smallvec.specs.SmallVec.{SmallVec}
 use Rattle.py_base.specs.declared.ids.PointId.{PointId}
-use Rattle.flow_points.specs.declared.point.Point.{Point}
-use Rattle.flow_points.specs.declared.edge.Edge.{Edge}
-use Rattle.flow_edges.specs.Flow.{Has}
+use Rattle.flow_rows.specs.declared.point.Point.{Point}
+use Rattle.flow_rows.specs.declared.edge.Edge.{Edge}
+use Rattle.flow_rows.specs.Flow.{Has}
 use Rattle.point_graph.specs.declared.incoming.Way.{Way}
 use Rattle.point_graph.specs.declared.numbers.Step.{Step}
 

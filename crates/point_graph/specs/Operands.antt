@@ -3,11 +3,11 @@
 -- 6.11 and 6.13).
 use Rattle.std.specs.Prelude.{ℕ, ◌≡◌, ◌<◌, List, Option, None, Some, slice_get, map}
 use Rattle.py_base.specs.declared.ids.NodeId.{NodeId}
-use Rattle.flow_points.specs.declared.point.Point.{Point}
-use Rattle.flow_points.specs.declared.form.Form.{Form}
-use Rattle.flow_points.specs.declared.form.Form.TheVariants as forms
-use Rattle.flow_points.specs.Points.{own}
-use Rattle.flow_edges.specs.Flow.{Has}
+use Rattle.flow_rows.specs.declared.point.Point.{Point}
+use Rattle.flow_rows.specs.declared.form.Form.{Form}
+use Rattle.flow_rows.specs.declared.form.Form.TheVariants as forms
+use Rattle.flow_rows.specs.Points.{own}
+use Rattle.flow_rows.specs.Flow.{Has}
 
 -- the operand that is evaluated first
 abbrev pub operand : Form → Option NodeId

@@ -1,10 +1,10 @@
 //! The forms in which nodes run, without the annotations in calls of `cast`.
 ghost use Rattle.std.specs.Prelude.{◌≡◌, IfOk, OnOk, map, unwrap_or};
-ghost use Rattle.flow_points.specs.declared.form.Form.{Form};
+ghost use Rattle.flow_rows.specs.declared.form.Form.{Form};
+ghost use Rattle.flow_forms.specs.Forms.{forms_of};
 ghost use Rattle.point_graph.specs.Annotations.{is_plain, is_marked, without_annotation, run_forms};
 
-use flow_forms::{forms, kind_of};
-use flow_points::Form;
+use flow_rows::Form;
 use py_base::{List, NoMemory, NodeId, NodeKind, Tree};
 use std::alloc::Global;
 
@@ -41,7 +41,7 @@ fn call_without(
     match arguments {
         [] => Ok(None),
         [first, more @ ..] => {
-            if is_marked(casts, callee) && stands_plain(kind_of(tree, *first)) {
+            if is_marked(casts, callee) && stands_plain(tree.kind(*first)) {
                 let rest = Vec::from_slice(alloc, more)?;
                 Ok(Some(Form::Call(callee, List::from_vec(rest))))
             } else {
@@ -103,13 +103,19 @@ fn leave_out_all(
     Ok(())
 }
 
-/// The form in which each node of a tree runs, in the order of their numbers, where `casts` says for each
-/// node whether it names `cast`; one that it has no place for doesn't. `NoMemory` where they could not be
-/// stored.
-pub fn forms_that_run(alloc: Global, tree: &Tree, casts: &[bool]) -> Result<List<Form>, NoMemory>
+/// The form in which each node of a tree runs, in the order of their numbers, by its forms; `casts` says for
+/// each node whether it names `cast`, and one that it has no place for doesn't. `NoMemory` where they could not
+/// be stored.
+pub fn forms_that_run(
+    alloc: Global,
+    tree: &Tree,
+    forms: List<Form>,
+    casts: &[bool],
+) -> Result<List<Form>, NoMemory>
+    requires { forms ≡ forms_of tree.now }
     ensures { IfOk result (λ list. list ≡ run_forms tree.now casts.now) }
 {
-    let mut list = forms(alloc, tree)?.into_vec();
+    let mut list = forms.into_vec();
     leave_out_all(alloc, tree, casts, list.as_mut_slice())?;
     Ok(List::from_vec(list))
 }

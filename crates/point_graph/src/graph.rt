@@ -1,6 +1,8 @@
 //! The graphs of a tree, by numbers.
 ghost use Rattle.std.specs.Prelude.{◌≡◌, ℕ, ◌<◌, ◌^◌, [], IfOk, length};
-ghost use Rattle.point_graph.specs.Graph.{IsGraph, AreNumbered};
+ghost use Rattle.flow_forms.specs.Forms.{forms_of};
+ghost use Rattle.point_graph.specs.Graph.{IsGraph, AreNumbered, is_call, call_source};
+ghost use Rattle.std.specs.List.{position};
 
 use crate::annotations::forms_that_run;
 use crate::homes::Numbering;
@@ -10,8 +12,7 @@ use crate::numbers::find;
 use crate::operands::operands;
 use crate::runs::{Run, Runs, laid_out};
 use crate::starts::add_starts;
-use flow_points::{EdgeKind, Form, Point};
-use flow_rows::{Ends, ends_of_forms};
+use flow_rows::{EdgeKind, Ends, Form, Point, ends_of_forms, first};
 use indexmap::IndexSet;
 use py_base::{GraphId, List, NoMemory, NodeId, PointId, Tree};
 use std::alloc::Global;
@@ -20,8 +21,8 @@ use std::marker::Model;
 /// The code flow graphs of a tree: one for the module, each def and each lambda. A point has one number.
 ///
 /// A contract sees the points by their numbers, for each number where the edges to it come from, and their
-/// kinds, the points of the graph of each node, the graph of each point, and the operand of each node that
-/// is evaluated first. The number of a graph is that of its node. Each number of a point that a call gives
+/// kinds, the points of the graph of each node, the graph of each point, and of each node the operand that is
+/// evaluated first and the first and the last point. The number of a graph is that of its node. Each number of a point that a call gives
 /// is below `len`.
 #[derive(Drop)]
 pub struct PointGraph {
@@ -32,6 +33,7 @@ pub struct PointGraph {
     graphs: List<Option<Members>>,
     homes: List<GraphId>,
     operands: List<Option<NodeId>>,
+    ends: List<Ends>,
 }
 
 impl Model for PointGraph {
@@ -41,17 +43,19 @@ impl Model for PointGraph {
 
     ghost Value = { Numbered };
 
-    ghost view = { λ g. record { points = g.points.keys; antecedents = parts g.sources g.runs; kinds = parts g.labels g.runs; graphs = g.graphs; homes = g.homes; operands = g.operands } };
+    ghost view = { λ g. record { points = g.points.keys; antecedents = parts g.sources g.runs; kinds = parts g.labels g.runs; graphs = g.graphs; homes = g.homes; operands = g.operands; ends = g.ends } };
 
-    ghost invariant = { λ g. IsClosed (record { points = g.points.keys; antecedents = parts g.sources g.runs; kinds = parts g.labels g.runs; graphs = g.graphs; homes = g.homes; operands = g.operands })
+    ghost invariant = { λ g. IsClosed (record { points = g.points.keys; antecedents = parts g.sources g.runs; kinds = parts g.labels g.runs; graphs = g.graphs; homes = g.homes; operands = g.operands; ends = g.ends })
         × AreRuns (length g.sources) g.runs × (length g.labels ≡ length g.sources) };
 }
 
 impl PointGraph {
     ghost use Rattle.std.specs.Prelude.{◌≡◌, ◌<◌, ◌^◌, Some, IfSome, IsNone, slice_get, length};
-    ghost use Rattle.flow_points.specs.declared.point.Point.{Point};
+    ghost use Rattle.flow_rows.specs.declared.point.Point.{Point};
     ghost use Rattle.point_graph.specs.declared.members.Members.{Members};
-    ghost use Rattle.point_graph.specs.Graph.{IsClosed, listed_or, graph_id, points_or, end_or, home_or};
+    ghost use Rattle.flow_rows.specs.Flow.{Has};
+    ghost use Rattle.flow_rows.specs.Ends.{first_of};
+    ghost use Rattle.point_graph.specs.Graph.{IsClosed, call_source, listed_or, graph_id, points_or, end_or, home_or};
     ghost use Rattle.point_graph.specs.Numbers.{IsNumber, AreWithin};
     ghost use Rattle.point_graph.specs.Operands.{IsPointAt};
     ghost use Rattle.std.specs.Option.{option_copied};
@@ -154,6 +158,23 @@ impl PointGraph {
         }
     }
 
+    /// The first point of a node in a copy: where what leads into the node leads to, as the first operand of an
+    /// expression or the label of a loop; `None` exactly where that is no point.
+    pub fn first(&self, node: NodeId, copy: u32) -> Option<PointId>
+        ensures some { IfSome result (λ id. IsNumber self.now.points id (first_of self.now.ends node copy)) }
+        ensures none { IsNone result → Has self.now.points (first_of self.now.ends node copy) → ⊥ }
+    {
+        find(&self.points, first(self.ends.as_slice(), node, copy))
+    }
+
+    /// The point before a call, given the point of the call, where the last argument has its value: that from which its edge of
+    /// kind `Call` leads; `None` exactly where no such edge leads to the point.
+    pub fn before_call(&self, point: PointId) -> Option<PointId>
+        ensures { result ≡ call_source (listed_or (slice_get self.now.antecedents point.0)) (listed_or (slice_get self.now.kinds point.0)) }
+    {
+        source_of_call(self.antecedents(point), self.kinds(point))
+    }
+
     /// How many points have numbers.
     pub fn len(&self) -> usize
         ensures value { result ≡ length self.now.points }
@@ -171,17 +192,37 @@ impl PointGraph {
     }
 }
 
+fn is_call(kind: &EdgeKind) -> bool
+    ensures { result ≡ is_call kind.now }
+{
+    matches!(kind, EdgeKind::Call(_))
+}
+
+fn place_of_call(kinds: &[EdgeKind]) -> Option<usize>
+    ensures { result ≡ position is_call kinds.now }
+{
+    kinds.iter().position(|kind| is_call(kind))
+}
+
+// Where the call edge among edges comes from.
+fn source_of_call(sources: &[PointId], kinds: &[EdgeKind]) -> Option<PointId>
+    ensures { result ≡ call_source sources.now kinds.now }
+{
+    let place = place_of_call(kinds)?;
+    sources.get(place).copied()
+}
+
 // The graphs by the forms of a tree's nodes.
-fn build_from(alloc: Global, forms: &[Form], ends: &[Ends]) -> Result<PointGraph, NoMemory>
+fn build_from(alloc: Global, forms: &[Form], ends: List<Ends>) -> Result<PointGraph, NoMemory>
     requires { length forms.now < 2 ^ 32 }
-    ensures { IfOk result (λ g. AreNumbered forms.now ends.now g) }
+    ensures { IfOk result (λ g. AreNumbered forms.now ends g) }
 {
     let mut numbering = Numbering {
         points: IndexSet::new(alloc),
         homes: List::new(alloc),
     };
     let mut steps = List::new(alloc);
-    let graphs = all_graphs(alloc, forms, ends, &mut numbering, &mut steps)?;
+    let graphs = all_graphs(alloc, forms, ends.as_slice(), &mut numbering, &mut steps)?;
     let Numbering { points, homes } = numbering;
     add_starts(forms, &points, &mut steps)?;
     let ways = grouped(alloc, steps.as_slice(), points.len())?;
@@ -199,19 +240,26 @@ fn build_from(alloc: Global, forms: &[Form], ends: &[Ends]) -> Result<PointGraph
         graphs,
         homes,
         operands,
+        ends,
     })
 }
 
-/// The code flow graphs of a tree. `casts` says for each node, by its number, whether it names `cast` of
+/// The code flow graphs of a tree with these forms. `casts` says for each node, by its number, whether it names `cast` of
 /// `typing`: the first argument of a call of such a node is an annotation, if it is a plain one, and has no
 /// points. A node behind the end of `casts` doesn't name it. `NoMemory` where the graphs could not be stored
 /// or numbered.
-pub fn build(alloc: Global, tree: &Tree, casts: &[bool]) -> Result<PointGraph, NoMemory>
+pub fn build(
+    alloc: Global,
+    tree: &Tree,
+    forms: List<Form>,
+    casts: &[bool],
+) -> Result<PointGraph, NoMemory>
+    requires { forms ≡ forms_of tree.now }
     ensures { IfOk result (λ g. IsGraph tree.now casts.now g) }
 {
     // Brings what always holds of a tree, that its nodes are few, into the proof.
     let _count = tree.node_count();
-    let forms = forms_that_run(alloc, tree, casts)?;
+    let forms = forms_that_run(alloc, tree, forms, casts)?;
     let ends = ends_of_forms(alloc, forms.as_slice())?;
-    build_from(alloc, forms.as_slice(), ends.as_slice())
+    build_from(alloc, forms.as_slice(), ends)
 }

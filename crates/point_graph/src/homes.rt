@@ -1,13 +1,13 @@
 //! Points come to graphs.
 ghost use Rattle.std.specs.Prelude.{◌≡◌, ℕ, ◌<◌, ◌≤◌, IfOk, OnOk, IsTrue, Some, slice_get, length, ◌⊎◌, ◌↔◌};
 ghost use Rattle.py_base.specs.declared.ids.PointId.{PointId};
-ghost use Rattle.flow_points.specs.declared.point.Point.{Point};
-ghost use Rattle.flow_edges.specs.Flow.{Has};
+ghost use Rattle.flow_rows.specs.declared.point.Point.{Point};
+ghost use Rattle.flow_rows.specs.Flow.{Has};
 ghost use Rattle.point_graph.specs.Numbers.{Keeps, IsNumber};
 ghost use Rattle.point_graph.specs.Building.{GrowsTo, IsListOf, TakesAlone, IsNumbering, Enters, Joins, AreMore};
 
 use crate::numbers::{Step, number};
-use flow_points::{Edge, Point};
+use flow_rows::{Edge, Point};
 use indexmap::IndexSet;
 use py_base::{GraphId, List, NoMemory, PointId};
 

@@ -3,7 +3,7 @@ ghost use Rattle.std.specs.Prelude.{◌≡◌, ℕ, ◌<◌, ◌∷◌, [], ◌+
 ghost use Rattle.point_graph.specs.Numbers.{lists, list_at, into, AreBelow};
 
 use crate::numbers::Step;
-use flow_points::EdgeKind;
+use flow_rows::EdgeKind;
 use py_base::{NoMemory, PointId};
 use smallvec::SmallVec;
 use std::alloc::Global;
@@ -18,7 +18,7 @@ pub struct Way {
 // What stands at the places of a short list that it doesn't use.
 impl Default for Way {
     ghost use Rattle.std.specs.Prelude.{◌≡◌};
-    ghost use Rattle.flow_points.specs.declared.edge.EdgeKind.TheVariants as kinds;
+    ghost use Rattle.flow_rows.specs.declared.edge.EdgeKind.TheVariants as kinds;
 
     ghost is_default = { λ w. w ≡ record { from = record { 0 = 0 }; kind = kinds.Plain } };
 

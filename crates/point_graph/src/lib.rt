@@ -4,8 +4,8 @@
 //! which edges lead to it, with their kinds, and the graph that it is of (`IsGraph`, in
 //! `specs/Graph.antt`); `PointGraph::point` gives the point of a node (`IsPointAt`, in `specs/Operands.antt`).
 //!
-//! The edges are those of `flow_edges`; `flow_forms` reads the forms of the nodes from the tree, and
-//! `flow_rows` gives their first and last points. Time and memory grow with the points and the edges: the
+//! `flow_forms` reads the forms of the nodes from the tree, and `flow_rows` gives their first and last points and
+//! the edges. Time and memory grow with the points and the edges: the
 //! edges of a graph are made once, and each point is looked up once for each edge that it ends.
 //!
 //! The first argument of `cast` is an annotation. Which calls these are a caller says, who knows what names
@@ -25,6 +25,3 @@ mod starts;
 
 pub use graph::{PointGraph, build};
 pub use members::Members;
-
-#[cfg(test)]
-mod tests;

@@ -1,14 +1,12 @@
 //! The points of each graph, and the edges within it.
 ghost use Rattle.std.specs.Prelude.{◌≡◌, ℕ, ◌<◌, ◌^◌, [], IfOk, OnOk, Some, slice_get, length};
 ghost use Rattle.py_base.specs.declared.ids.GraphId.{GraphId};
-ghost use Rattle.flow_edges.specs.Flow.{run_at};
+ghost use Rattle.flow_rows.specs.Flow.{run_at};
 ghost use Rattle.point_graph.specs.Building.{IsNumbering, Adds, AddsAt, IsDraft};
 
 use crate::homes::{Numbering, enter, enter_edges};
 use crate::numbers::Step;
-use flow_edges::{edges_of, end_of_graph, has_graph};
-use flow_points::{Form, Point};
-use flow_rows::Ends;
+use flow_rows::{Ends, Form, Point, edges_of, end_of_graph, has_graph};
 use py_base::{GraphId, List, NoMemory, NodeId, PointId};
 use std::alloc::Global;
 

@@ -1,11 +1,11 @@
 //! Numbers of points.
 ghost use Rattle.std.specs.Prelude.{◌≡◌, ℕ, ◌<◌, ◌^◌, IfOk, OnOk, IfSome, IsNone, length, ◌⊎◌, ◌↔◌};
-ghost use Rattle.flow_points.specs.declared.point.Point.{Point};
-ghost use Rattle.flow_edges.specs.Flow.{Has};
+ghost use Rattle.flow_rows.specs.declared.point.Point.{Point};
+ghost use Rattle.flow_rows.specs.Flow.{Has};
 ghost use Rattle.point_graph.specs.Numbers.{IsApart, Keeps, IsNumber};
 ghost use Rattle.point_graph.specs.Building.{GrowsTo};
 
-use flow_points::{EdgeKind, Point};
+use flow_rows::{EdgeKind, Point};
 use indexmap::IndexSet;
 use py_base::{NoMemory, PointId};
 

@@ -2,7 +2,7 @@
 ghost use Rattle.std.specs.Prelude.{◌≡◌, ◌++◌, IfOk};
 ghost use Rattle.point_graph.specs.Operands.{operand, operands_of};
 
-use flow_points::Form;
+use flow_rows::Form;
 use py_base::{List, NoMemory, NodeId};
 use std::alloc::Global;
 

@@ -4,7 +4,7 @@ ghost use Rattle.point_graph.specs.Numbers.{lists};
 ghost use Rattle.point_graph.specs.Runs.{parts, AreRuns};
 
 use crate::incoming::{Way, Ways};
-use flow_points::EdgeKind;
+use flow_rows::EdgeKind;
 use py_base::{List, NoMemory, PointId};
 use std::alloc::Global;
 

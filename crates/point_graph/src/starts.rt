@@ -1,13 +1,12 @@
 //! The edges to the starts of graphs.
 ghost use Rattle.std.specs.Prelude.{ℕ, ◌<◌, ◌^◌, OnOk, length};
 ghost use Rattle.py_base.specs.declared.ids.NodeId.{NodeId};
-ghost use Rattle.flow_points.specs.Points.{start};
-ghost use Rattle.flow_edges.specs.Flow.{Has, HasGraph};
+ghost use Rattle.flow_rows.specs.Points.{start};
+ghost use Rattle.flow_rows.specs.Flow.{Has, HasGraph};
 ghost use Rattle.point_graph.specs.Building.{IsStartOf, IsStartBelow, AreMore};
 
 use crate::numbers::{Step, find};
-use flow_edges::has_graph;
-use flow_points::{EdgeKind, Form, Point};
+use flow_rows::{EdgeKind, Form, Point, has_graph};
 use indexmap::IndexSet;
 use py_base::{List, NoMemory, NodeId};
 

@@ -2,8 +2,7 @@
 ghost use Rattle.std.specs.Prelude.{◌≡◌, ◌<◌, length};
 
 use crate::sources::{Named, is_of_kind, named_of, show_node};
-use cast_calls::casts;
-use node_references::{NodeReferences, Root, at, node_references};
+use node_references::{NodeReferences, Root, at, casts, node_references};
 use py_base::{NameId, NoMemory, NodeId, NodeKind, RefId, SymId, Tree};
 use py_scopes::Owner;
 use std::alloc::{AllocError, Global};

@@ -1,6 +1,6 @@
 use Rattle.std.proofs.Common.{◌≡◌, ◌++◌, drop, map}
-use Rattle.flow_points.specs.declared.edge.EdgeKind.TheVariants.{Plain}
-use Rattle.flow_points.specs.Points.{edge}
+use Rattle.flow_rows.specs.declared.edge.EdgeKind.TheVariants.{Plain}
+use Rattle.flow_rows.specs.Points.{edge}
 use Rattle.flow_rows.specs.Ends.{last_of}
 use Rattle.flow_rows.proofs.matching.add_case_ends.Given as goal
 

@@ -1,5 +1,5 @@
 use Rattle.std.proofs.Common.{◌≡◌, ◌++◌, drop}
-use Rattle.flow_points.specs.Routes.{arrows_to}
+use Rattle.flow_rows.specs.Routes.{arrows_to}
 use Rattle.flow_rows.proofs.path.add_arrows.Given as goal
 
 abbrev pub invariant-loop-point : goal.invariant-loop-point

@@ -1,5 +1,5 @@
 use Rattle.std.proofs.Common.{◌≡◌, ◌+◌, ◌⊎◌, refl, take, get_or}
-use Rattle.flow_points.specs.declared.edge.Edge.{Edge}
+use Rattle.flow_rows.specs.declared.edge.Edge.{Edge}
 use Rattle.point_graph.specs.Building.{Joins}
 use Rattle.point_graph.proofs.Steps.{no_edge}
 use Rattle.point_graph.proofs.Entering.{enters_both, enters_as, joins_more, more_step}

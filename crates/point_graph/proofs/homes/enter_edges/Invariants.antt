@@ -1,5 +1,5 @@
 use Rattle.std.proofs.Common.{take}
-use Rattle.flow_edges.specs.Flow.{Has}
+use Rattle.flow_rows.specs.Flow.{Has}
 use Rattle.point_graph.specs.Building.{Enters, Joins, AreMore}
 use Rattle.point_graph.proofs.homes.enter_edges.Given as goal
 

@@ -1,10 +1,10 @@
 use Rattle.std.proofs.Common.{◌≡◌, List, Some, subst, ap, ◌∙◌}
 use Rattle.py_base.specs.declared.ids.GraphId.{GraphId}
 use Rattle.py_base.specs.declared.ids.PointId.{PointId}
-use Rattle.flow_points.specs.declared.edge.Edge.{Edge}
-use Rattle.flow_points.specs.declared.point.Point.{Point}
-use Rattle.flow_points.specs.Points.{start}
-use Rattle.flow_edges.specs.Flow.{Has, end_point}
+use Rattle.flow_rows.specs.declared.edge.Edge.{Edge}
+use Rattle.flow_rows.specs.declared.point.Point.{Point}
+use Rattle.flow_rows.specs.Points.{start}
+use Rattle.flow_rows.specs.Flow.{Has, end_point}
 use Rattle.point_graph.specs.Building.{Enters, Joins, AreMore}
 use Rattle.point_graph.proofs.Drafts.{graph_made}
 use Rattle.point_graph.proofs.members.add_graph.Goals as goal
@@ -29,7 +29,7 @@ returns c =
     graph_made c.args.forms.now c.args.ends.now c.args.root c.in_ok-edges.edges
     points points_1 points_2 points_3 homes homes_1 homes_2 homes_3 list_1 list_2 list_3
     c.args.steps.now c.enter_edges.new.steps c.in_ok-end.end
-    c.in_ok-edges.ensures
+    c.in_ok-edges.ensures.exact
     (subst (λ (l : List PointId). Enters graph (λ p. start c.args.root ≡ p) points points_1 homes homes_1 l list_1) c.new-points.ensures begun)
     (subst (λ (s : Point). Enters graph (λ p. s ≡ p) points_1 points_2 homes_1 homes_2 list_1 list_2) c.end_of_graph-last.ensures c.in_ok-end.ensures.enters)
     (c.in_ok-end.ensures.at ∙ ap Some c.end_of_graph-last.ensures)

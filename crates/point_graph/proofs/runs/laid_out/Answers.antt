@@ -1,7 +1,7 @@
 use Rattle.std.proofs.Common.{◌≡◌, ℕ, ◌≤◌, List, [], ◌++◌, length, map, ap, sym, ◌∙◌, subst}
 use Rattle.std.proofs.lemmas.List.{append-nil}
 use Rattle.py_base.specs.declared.ids.PointId.{PointId}
-use Rattle.flow_points.specs.declared.edge.EdgeKind.{EdgeKind}
+use Rattle.flow_rows.specs.declared.edge.EdgeKind.{EdgeKind}
 use Rattle.point_graph.specs.declared.incoming.Way.{Way}
 use Rattle.point_graph.specs.Runs.{AreRuns}
 use Rattle.point_graph.proofs.Laying.{parts_more, runs_more, longer, no_shorter}

@@ -1,7 +1,7 @@
 use Rattle.std.proofs.Common.{◌≡◌, true, Some, refl, ap, ◌∙◌, is_some, rules}
-use Rattle.flow_points.specs.declared.edge.EdgeKind.TheVariants as kinds
-use Rattle.flow_points.specs.Points.{own, start}
-use Rattle.flow_edges.specs.Flow.{run_at}
+use Rattle.flow_rows.specs.declared.edge.EdgeKind.TheVariants as kinds
+use Rattle.flow_rows.specs.Points.{own, start}
+use Rattle.flow_rows.specs.Flow.{run_at}
 use Rattle.point_graph.specs.Numbers.{IsNumber}
 use Rattle.point_graph.proofs.Keys.{has_at}
 use Rattle.point_graph.proofs.Drafts.{has_too}

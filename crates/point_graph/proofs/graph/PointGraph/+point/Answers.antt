@@ -1,8 +1,8 @@
 use Rattle.std.proofs.Common.{Some, refl, ap, ◌∙◌, subst}
 use Rattle.std.proofs.lemmas.Option.{slice_get_within}
-use Rattle.flow_points.specs.declared.point.Point.{Point}
-use Rattle.flow_points.specs.Points.{own}
-use Rattle.flow_edges.specs.Flow.{Has}
+use Rattle.flow_rows.specs.declared.point.Point.{Point}
+use Rattle.flow_rows.specs.Points.{own}
+use Rattle.flow_rows.specs.Flow.{Has}
 use Rattle.point_graph.specs.Numbers.{IsNumber}
 use Rattle.point_graph.specs.Operands.{itself}
 use Rattle.point_graph.specs.Graph.{Numbered}

@@ -1,6 +1,6 @@
 use Rattle.std.proofs.Common.{◌<◌, List, length, sym, subst}
 use Rattle.py_base.specs.declared.ids.PointId.{PointId}
-use Rattle.flow_edges.specs.Flow.{Has}
+use Rattle.flow_rows.specs.Flow.{Has}
 use Rattle.point_graph.specs.Graph.{Numbered}
 use Rattle.point_graph.specs.Runs.{part}
 use Rattle.point_graph.proofs.Whole.{part_at}

@@ -1,7 +1,0 @@
-use Rattle.cast_calls.specs.Casts.{names_cast}
-use Rattle.cast_calls.proofs.Marking.{answer_more}
-use Rattle.cast_calls.proofs.naming.casts.Goals as goal
-
-pub loop-place-preserved : goal.loop-place-preserved
-loop-place-preserved c = answer_more (names_cast c.args.tree.now c.args.scopes.now) c.loop-place.place c.loop-place.list c.push.new.self c.names_cast.result
-    c.in_ok-push.ensures.ok c.names_cast.ensures c.loop-place.invariant

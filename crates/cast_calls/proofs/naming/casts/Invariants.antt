@@ -1,7 +1,0 @@
-use Rattle.std.proofs.Common.{◌≡◌, map}
-use Rattle.py_scopes.specs.Occurrences.{first_ids}
-use Rattle.cast_calls.specs.Casts.{names_cast}
-use Rattle.cast_calls.proofs.naming.casts.Given as goal
-
-abbrev pub invariant-loop-place : goal.invariant-loop-place
-invariant-loop-place l = l.list ≡ map (names_cast l.tree l.scopes) (first_ids l.place)

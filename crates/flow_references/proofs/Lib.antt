@@ -1,6 +1,0 @@
-mod Closing
-mod Gathering
-mod Marking
-mod Occurring
-mod Subjecting
-mod Whole

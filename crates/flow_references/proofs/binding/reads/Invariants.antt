@@ -1,6 +1,0 @@
-use Rattle.std.proofs.Common.{ℕ}
-use Rattle.flow_references.specs.Numbering.{read_by, IsTable}
-use Rattle.flow_references.proofs.binding.reads.Given as goal
-
-abbrev pub invariant-loop-place : goal.invariant-loop-place
-invariant-loop-place l = IsTable (λ (i : ℕ). read_by l.tree.nodes l.marks.run l.marks.bound l.marks.spelled l.table (record { 0 = i })) l.place l.list

@@ -1,4 +1,0 @@
-use Rattle.flow_references.proofs.graphs.add_occurring.Goals as goal
-
-pub returns-clause-once : goal.returns-clause-once
-returns-clause-once c = λ before. c.in_ok-add_some-2.ensures.once (c.in_ok-add_some.ensures.once before)

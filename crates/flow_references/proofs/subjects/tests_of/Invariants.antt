@@ -1,6 +1,0 @@
-use Rattle.std.proofs.Common.{ℕ}
-use Rattle.flow_references.specs.Numbering.{test_by, IsTable}
-use Rattle.flow_references.proofs.subjects.tests_of.Given as goal
-
-abbrev pub invariant-loop-place : goal.invariant-loop-place
-invariant-loop-place l = IsTable (λ (i : ℕ). test_by l.tree l.marks.run l.marks.bound l.marks.spelled l.subjects l.table (record { 0 = i })) l.place l.list

@@ -1,4 +1,0 @@
-use Rattle.flow_references.proofs.tested.+is_chain_within.Given as goal
-
-abbrev pub decreases-is_chain_within : goal.decreases-is_chain_within
-decreases-is_chain_within l = l.left

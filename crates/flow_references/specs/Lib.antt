@@ -1,5 +1,0 @@
-pub mod Targets
-pub mod Bindings
-pub mod Tests
-pub mod Numbering
-pub mod Table
