@@ -7,14 +7,16 @@ use Rattle.std.proofs.lemmas.List.Elements.{All-weaker}
 use Rattle.std.proofs.lemmas.Bool.{agree_below, agree_below_at, and_parts, eqb-true, ltb-true, not-true, cases_Bool, false≢true}
 use Rattle.std.proofs.lemmas.Bool.Decides.{nat_tests}
 use Rattle.py_base.specs.declared.ids.ClassId.{ClassId}
-use Rattle.class_rows.specs.declared.builtin.Builtin.{Builtin}
-use Rattle.class_rows.specs.declared.builtin.Builtin.TheVariants as class
-use Rattle.class_rows.specs.Builtins.{id_of, builtins}
+use Rattle.py_base.specs.declared.builtin.Builtin.{Builtin}
+use Rattle.py_base.specs.declared.builtin.Builtin.TheVariants as class
+use Rattle.py_base.specs.Builtins.{id_of, builtins}
 use Rattle.class_rows.specs.Classes.{builtin_class, classes, class_at, no_class}
 use Rattle.class_rows.specs.Merge.{has, heads, pick, without, IsMerge}
-use Rattle.class_rows.specs.Rows.{ClassRow, IsOrder, builtin_row, row_at, no_row, order_of, merged_lists, symbol_in}
+use Rattle.class_rows.specs.Orders.{builtin_row, builtin_rows}
+use Rattle.class_rows.specs.Rows.{ClassRow, IsOrder, row_at, no_row, order_of, merged_lists, symbol_in}
 use Rattle.class_rows.specs.Waits.{AreBelow, occurrences}
 use Rattle.class_rows.proofs.Counting.{occurrences_cons, has_is}
+use Rattle.class_rows.specs.declared.builtin_orders.TheConstants.{ORDERS}
 use Rattle.class_rows.proofs.Growing.{IsBuilt}
 
 abbrev is_nil : List ClassId → Bool
@@ -69,7 +71,7 @@ distinct_once (c ∷ list) n e =
 
 -- the rows of the builtin classes, and the classes themselves
 abbrev pub rows : List ClassRow
-rows = map builtin_row builtins
+rows = builtin_rows
 
 abbrev pub order : ℕ → List ClassId
 order n = order_of rows (record { 0 = n })
@@ -105,14 +107,15 @@ order_is lists bs c true list rest o e f m = (e, (rest, f, m))
 order_is lists bs c false list rest o e f m = absurd (false≢true o)
 
 -- a builtin class has no Unknown base and no members here
-row_plain : (bs : List Builtin) (n : ℕ) → ((get_or (map builtin_row bs) n no_row).unknown_base ≡ false) × ((get_or (map builtin_row bs) n no_row).members ≡ [])
-row_plain [] n = (refl, refl)
-row_plain (b ∷ bs) zero = (refl, refl)
-row_plain (b ∷ bs) (suc n) = row_plain bs n
+row_plain : {O : Type 0} (f : O → List Builtin) (os : List O) (n : ℕ)
+    → ((get_or (map (λ o. builtin_row (f o)) os) n no_row).unknown_base ≡ false) × ((get_or (map (λ o. builtin_row (f o)) os) n no_row).keyword ≡ false) × ((get_or (map (λ o. builtin_row (f o)) os) n no_row).members ≡ [])
+row_plain f [] n = (refl, refl, refl)
+row_plain f (o ∷ os) zero = (refl, refl, refl)
+row_plain f (o ∷ os) (suc n) = row_plain f os n
 
-class_plain : (bs : List Builtin) (n : ℕ) → ((get_or (map builtin_class bs ++ []) n no_class).unknown_base ≡ false) × ((get_or (map builtin_class bs ++ []) n no_class).members ≡ [])
-class_plain [] n = (refl, refl)
-class_plain (b ∷ bs) zero = (refl, refl)
+class_plain : (bs : List Builtin) (n : ℕ) → ((get_or (map builtin_class bs ++ []) n no_class).unknown_base ≡ false) × ((get_or (map builtin_class bs ++ []) n no_class).keyword ≡ false) × ((get_or (map builtin_class bs ++ []) n no_class).members ≡ [])
+class_plain [] n = (refl, refl, refl)
+class_plain (b ∷ bs) zero = (refl, refl, refl)
 class_plain (b ∷ bs) (suc n) = class_plain bs n
 
 -- what the test says at a builtin class
@@ -149,12 +152,13 @@ built_builtins = record {
     count = refl;
     each = λ c below.
         let h = is_right_at c.0 below in
-        let r = row_plain builtins c.0 in
+        let r = row_plain (λ order. order.now) ORDERS c.0 in
         let k = class_plain builtins c.0 in
         record {
           order = order_is (merged_lists (order_of rows) (bases c.0)) (bases c.0) c (row_at rows c).ordered (order c.0) (drop 1 (order c.0)) h.ordered h.no_bool h.begins_with h.merge;
           unknown_base = r.0 ∙ sym k.0;
-          members = λ name. ap (symbol_in name) (r.1 ∙ sym k.1);
+          keyword = r.1 ∙ sym k.1;
+          members = λ name. ap (symbol_in name) (r.2 ∙ sym k.2);
         };
   };
   table = λ c below.

@@ -1,12 +1,13 @@
 -- A table of rows that grows by the row of one more class.
 use Rattle.std.proofs.Common.{◌≡◌, ◌==◌, ◌<◌, ◌≤◌, ◌+◌, ◌⊎◌, ℕ, Bool, true, false, cond, List, [], ◌∷◌, ◌++◌, length, map, refl, inl, inr, ⊎_elim, subst, sym, ap, ◌∙◌, arith}
+use Rattle.std.proofs.Math.ListN.{get_or-eq_default}
 use Rattle.std.proofs.lemmas.List.{get_or_append_left, get_or_push, length_push, map_push, append_assoc}
 use Rattle.std.proofs.lemmas.List.Elements.{All-cons, All-nil, All-head, All-tail}
 use Rattle.std.proofs.lemmas.Bool.{cases_Bool, cases_lt, eqb-true}
 use Rattle.py_base.specs.declared.ids.ClassId.{ClassId}
 use Rattle.class_rows.specs.declared.head.ClassHead.{ClassHead}
-use Rattle.class_rows.specs.declared.builtin.Builtin.TheVariants as class
-use Rattle.class_rows.specs.Builtins.{id_of, builtins}
+use Rattle.py_base.specs.declared.builtin.Builtin.TheVariants as class
+use Rattle.py_base.specs.Builtins.{id_of, builtins}
 use Rattle.class_rows.specs.Classes.{Class, builtin_class, classes, class_at, class_of, no_class}
 use Rattle.class_rows.specs.Rows.{ClassRow, IsClass, IsOrder, IsRow, IsRows, row_at, no_row, order_of, merged_lists}
 use Rattle.class_rows.specs.Table.{IsSound, IsTable}
@@ -68,6 +69,13 @@ new_sound limit c rest e h = record {
 sound_more : (limit : ℕ) (c : ClassId) (order : List ClassId) → IsSound limit c order → IsSound (limit + 1) c order
 sound_more limit c order h = record { first = h.first; below = below_more limit (limit + 1) order (omega arith) h.below; once = h.once }
 
+-- the row where a table ends
+pub row_past : (rows : List ClassRow) (c : ClassId) → length rows ≤ c.0 → row_at rows c ≡ no_row
+row_past rows c past = get_or-eq_default rows no_row past
+
+pub order_past : (rows : List ClassRow) (c : ClassId) → (IsClass rows c → ⊥) → order_of rows c ≡ []
+order_past rows c none = ⊎_elim (λ within. absurd (none within)) (λ past. ap (λ x. x.order) (row_past rows c past)) (cases_lt c.0 (length rows))
+
 -- the row of a class that was there before
 row_before : (rows : List ClassRow) (row : ClassRow) (c : ClassId) → IsClass rows c → row_at (rows ++ row ∷ []) c ≡ row_at rows c
 row_before rows row c within = get_or_append_left rows (row ∷ []) no_row c.0 within
@@ -122,7 +130,7 @@ orders_before rows row (c ∷ bases) below =
 row_moved : (f g : ClassId → List ClassId) (c : ClassId) (class : Class) (row : ClassRow) → map f class.bases ≡ map g class.bases → IsRow f c class row → IsRow g c class row
 row_moved f g c class row e h =
     let P : List (List ClassId) → Type 0 = λ orders. IsOrder (orders ++ class.bases ∷ []) class.bases c row.ordered row.order in
-    record { order = subst P e h.order; unknown_base = h.unknown_base; members = h.members }
+    record { order = subst P e h.order; unknown_base = h.unknown_base; keyword = h.keyword; members = h.members }
 
 row_same : (f g : ClassId → List ClassId) (c : ClassId) (class class' : Class) (row row' : ClassRow) → class' ≡ class → row' ≡ row → map f class.bases ≡ map g class.bases → IsRow f c class row → IsRow g c class' row'
 row_same f g c class class' row row' e e' m h =

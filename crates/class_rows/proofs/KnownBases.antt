@@ -5,8 +5,8 @@ use Rattle.class_rows.specs.declared.head.Base.{Base}
 use Rattle.class_rows.specs.declared.head.Base.TheVariants.{Known, Unknown}
 use Rattle.std.proofs.lemmas.List.Elements.{All-cons, All-nil, All-head, All-tail, All-push}
 use Rattle.py_base.specs.declared.ids.ClassId.{ClassId}
-use Rattle.class_rows.specs.declared.builtin.Builtin.TheVariants as class
-use Rattle.class_rows.specs.Builtins.{id_of}
+use Rattle.py_base.specs.declared.builtin.Builtin.TheVariants as class
+use Rattle.py_base.specs.Builtins.{id_of}
 use Rattle.class_rows.specs.Classes.{known, or_object}
 use Rattle.class_rows.specs.Waits.{AreBelow}
 

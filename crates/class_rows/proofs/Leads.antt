@@ -5,7 +5,7 @@ use Rattle.std.proofs.lemmas.List.Sums.{sum_by-cons}
 use Rattle.std.proofs.lemmas.Bool.{cases_Bool, cond-true, cond-false}
 use Rattle.std.proofs.lemmas.Bool.Decides.{nat_tests}
 use Rattle.py_base.specs.declared.ids.ClassId.{ClassId}
-use Rattle.class_rows.specs.Merge.{heads, pick, is_good, without, IsMerge, HasMerge}
+use Rattle.class_rows.specs.Merge.{heads, pick, is_good, without, IsMerge, IsMergeBehind, HasMerge}
 
 -- the orders of the lists are those that begin with what is done and go on with a merge of what is left
 pub record Leads (lists left : List (List ClassId)) (done : List ClassId) : Type 0 where
@@ -47,6 +47,23 @@ no_rest left (d ∷ rest) e f m = absurd (let g = m.0 in cc)
 -- something is left and nothing can be picked: no order merges the lists
 pub leads_nowhere : (lists left : List (List ClassId)) (done : List ClassId) → Leads lists left done → pick left ≡ None → (heads left ≡ [] → ⊥) → HasMerge lists → ⊥
 leads_nowhere lists left done l e f m = let b = l.back m.0 m.1 in no_rest left b.0 e f b.2
+
+-- the same of an order that begins with a class that is in none of the lists
+abbrev pub Led : ClassId → List (List ClassId) → List (List ClassId) → List ClassId → Type 0
+Led first lists left order = (done : List ClassId) × (order ≡ first ∷ done) × Leads lists left done
+
+pub led_start : (first : ClassId) (lists left : List (List ClassId)) (order : List ClassId) → left ≡ lists → order ≡ first ∷ [] → Led first lists left order
+led_start first lists left order same e = let P : List (List ClassId) → Type 0 = λ x. Leads lists x [] in ([], e, subst P (sym same) (leads_start lists))
+
+pub led_more : (first : ClassId) (lists left next : List (List ClassId)) (order more : List ClassId) (c : ClassId) → pick left ≡ Some c → next ≡ map (without c) left → more ≡ order ++ c ∷ [] → Led first lists left order → Led first lists next more
+led_more first lists left next order more c picked e f l =
+    (l.0 ++ c ∷ [], f ∙ ap (λ o. o ++ c ∷ []) l.1, leads_more lists left next l.0 (l.0 ++ c ∷ []) c picked e refl l.2)
+
+pub led_all : (first : ClassId) (lists left : List (List ClassId)) (order : List ClassId) → Led first lists left order → heads left ≡ [] → IsMergeBehind first lists order
+led_all first lists left order l e = (l.0, l.1, leads_all lists left l.0 l.2 e)
+
+pub led_nowhere : (first : ClassId) (lists left : List (List ClassId)) (order : List ClassId) → Led first lists left order → pick left ≡ None → (heads left ≡ [] → ⊥) → HasMerge lists → ⊥
+led_nowhere first lists left order l = leads_nowhere lists left l.0 l.2
 
 length_without : (c : ClassId) (list : List ClassId) → length (without c list) ≤ length list
 length_without c [] = omega arith

@@ -10,3 +10,4 @@ pub mod Picking
 pub mod SingleBase
 pub mod Symbols
 pub mod Tables
+pub mod Taking

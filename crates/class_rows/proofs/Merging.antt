@@ -6,9 +6,9 @@ use Rattle.std.proofs.lemmas.List.Elements.{All-append, All-map, All-cons, All-n
 use Rattle.std.proofs.lemmas.List.Sums.{sum_by-append, sum_by-le, sum_by-cons, count_by-le-length}
 use Rattle.py_base.specs.declared.ids.ClassId.{ClassId}
 use Rattle.py_base.specs.declared.stop.NoMemory.{NoMemory}
-use Rattle.class_rows.specs.declared.builtin.Builtin.TheVariants as class
-use Rattle.class_rows.specs.Builtins.{id_of}
-use Rattle.class_rows.specs.Merge.{has, IsMerge, HasMerge}
+use Rattle.py_base.specs.declared.builtin.Builtin.TheVariants as class
+use Rattle.py_base.specs.Builtins.{id_of}
+use Rattle.class_rows.specs.Merge.{has, IsMergeBehind, HasMerge}
 use Rattle.class_rows.specs.Rows.{ClassRow, order_of, merged_lists, HasOrder}
 use Rattle.class_rows.specs.Table.{IsTable}
 use Rattle.class_rows.specs.Waits.{AreBelow, occurrences, waiting}
@@ -45,9 +45,9 @@ lists_waits n rows bases table below =
     count_by_tail n list = omega (arith, count_by-le-length (λ (c : ClassId). c.0 == n) (drop 1 list), length-drop 1 list)
 
 -- what the merge of the lists says of the order of a class none of whose bases is `bool`
-pub order_from_merge : (lists : List (List ClassId)) (bases : List ClassId) (r : Result (Option (List ClassId)) NoMemory) → has (id_of class.Bool) bases ≡ false
-    → IfOk r (λ m. MatchOption m (HasMerge lists → ⊥) (IsMerge lists))
-    → IfOk r (λ m. MatchOption m (HasOrder lists bases → ⊥) (λ rest. (has (id_of class.Bool) bases ≡ false) × IsMerge lists rest))
-order_from_merge lists bases (Ok (Some rest)) e h = (e, h)
-order_from_merge lists bases (Ok None) e h = λ o. h o.1
-order_from_merge lists bases (Err x) e h = tt
+pub order_from_merge : (c : ClassId) (lists : List (List ClassId)) (bases : List ClassId) (r : Result (Option (List ClassId)) NoMemory) → has (id_of class.Bool) bases ≡ false
+    → IfOk r (λ m. MatchOption m (HasMerge lists → ⊥) (IsMergeBehind c lists))
+    → IfOk r (λ m. MatchOption m (HasOrder lists bases → ⊥) (λ order. (has (id_of class.Bool) bases ≡ false) × IsMergeBehind c lists order))
+order_from_merge c lists bases (Ok (Some order)) e h = (e, h)
+order_from_merge c lists bases (Ok None) e h = λ o. h o.1
+order_from_merge c lists bases (Err x) e h = tt

@@ -8,7 +8,7 @@ use Rattle.std.proofs.lemmas.List.Sums.{AllPass-from_list_all}
 use Rattle.std.proofs.lemmas.Bool.{agree_below, agree_below_at, and_parts, cases_lt, ltb-true, lt-ltb, le-ltb, cond-true, cond-false, false≢true}
 use Rattle.py_base.specs.declared.ids.ClassId.{ClassId}
 use Rattle.class_rows.specs.declared.head.ClassHead.{ClassHead}
-use Rattle.class_rows.specs.Builtins.{builtins}
+use Rattle.py_base.specs.Builtins.{builtins}
 use Rattle.class_rows.specs.Classes.{BasesAreEarlier, builtin_class, class_of, classes, class_at, known, no_class}
 use Rattle.class_rows.specs.Rows.{ClassRow, IsClass, IsOrder, IsRows, row_at, order_of, merged_lists}
 use Rattle.class_rows.specs.Laws.{IsPartOf, RowsKeep, AreAlike, OneTable}
@@ -95,7 +95,7 @@ builtin_lower heads c below =
         (omega (arith, small, length_classes heads), omega (arith, rank_builtin b.0 small, rank_builtin c.0 below, ltb-true (length (order b.0)) (length (order c.0)) parts.1))
 
 no_head : ClassHead
-no_head = record { name = record { 0 = 0 }; bases = []; members = [] }
+no_head = record { name = record { 0 = 0 }; bases = []; keyword = false; members = [] }
 
 file_lower : (heads : List ClassHead) (c : ClassId) → BasesAreEarlier heads → 53 ≤ c.0 → c.0 < length (classes heads) → All (IsLower heads c.0) (class_at (classes heads) c).bases
 file_lower heads c earlier above within =
@@ -138,7 +138,7 @@ module _ (heads : List ClassHead) (a b : List ClassRow) (earlier : BasesAreEarli
       let same = orders_alike (rank c.0 + 1) c (omega arith) within in
       let one = first.each c within in
       let two = second.each c (in_second c within) in
-      record { order = same.0; ordered = same.1; unknown_base = one.unknown_base ∙ sym two.unknown_base; members = λ name. one.members name ∙ sym (two.members name) }
+      record { order = same.0; ordered = same.1; unknown_base = one.unknown_base ∙ sym two.unknown_base; keyword = one.keyword ∙ sym two.keyword; members = λ name. one.members name ∙ sym (two.members name) }
 
 pub one_table : OneTable
 one_table heads a b earlier first second c within = alike heads a b earlier first second c within

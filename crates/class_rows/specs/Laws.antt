@@ -32,6 +32,7 @@ pub record AreAlike (a b : ClassRow) : Type 0 where
   pub order : a.order ≡ b.order
   pub ordered : a.ordered ≡ b.ordered
   pub unknown_base : a.unknown_base ≡ b.unknown_base
+  pub keyword : a.keyword ≡ b.keyword
   pub members : (name : NameId) → symbol_in name a.members ≡ symbol_in name b.members
 
 -- no class statements have two tables of rows that tell different things

@@ -28,6 +28,10 @@ abbrev pub IsMerge : List (List ClassId) → List ClassId → Type 0
 IsMerge lists [] = heads lists ≡ []
 IsMerge lists (c ∷ order) = (pick lists ≡ Some c) × IsMerge (map (without c) lists) order
 
+-- the order is the class and behind it a merge of the lists
+abbrev pub IsMergeBehind : ClassId → List (List ClassId) → List ClassId → Type 0
+IsMergeBehind c lists order = (rest : List ClassId) × (order ≡ c ∷ rest) × IsMerge lists rest
+
 -- some order merges the lists
 abbrev pub HasMerge : List (List ClassId) → Type 0
 HasMerge lists = (order : List ClassId) × IsMerge lists order

@@ -7,26 +7,23 @@ use Rattle.py_base.specs.declared.ids.ClassId.{ClassId}
 use Rattle.py_base.specs.declared.ids.NameId.{NameId}
 use Rattle.py_base.specs.declared.ids.SymId.{SymId}
 use Rattle.class_rows.specs.declared.head.ClassHead.{ClassHead}
-use Rattle.class_rows.specs.declared.builtin.Builtin.{Builtin}
-use Rattle.class_rows.specs.declared.builtin.Builtin.TheVariants as class
-use Rattle.class_rows.specs.Builtins.{id_of, order_of_builtin}
+use Rattle.py_base.specs.declared.builtin.Builtin.{Builtin}
+use Rattle.py_base.specs.declared.builtin.Builtin.TheVariants as class
+use Rattle.py_base.specs.Builtins.{id_of}
 use Rattle.class_rows.specs.Classes.{Class, classes, class_at}
-use Rattle.class_rows.specs.Merge.{has, IsMerge, HasMerge}
+use Rattle.class_rows.specs.Merge.{has, IsMergeBehind, HasMerge}
 
 -- the row of a class
 pub record ClassRow : Type 0 where
   pub order : List ClassId
   pub ordered : Bool
   pub unknown_base : Bool
+  pub keyword : Bool
   pub members : List (NameId × SymId)
-
--- the row of a builtin class
-abbrev pub builtin_row : Builtin → ClassRow
-builtin_row builtin = record { order = map id_of (order_of_builtin builtin); ordered = true; unknown_base = false; members = [] }
 
 -- no row, where a list of rows ends
 abbrev pub no_row : ClassRow
-no_row = record { order = []; ordered = false; unknown_base = false; members = [] }
+no_row = record { order = []; ordered = false; unknown_base = false; keyword = false; members = [] }
 
 abbrev pub row_at : List ClassRow → ClassId → ClassRow
 row_at rows c = slice_index_or rows c.0 no_row
@@ -46,13 +43,21 @@ is_sub_of rows low high = has high (order_of rows low)
 abbrev pub is_open_of : List ClassRow → ClassId → Bool
 is_open_of rows c = list_any (λ d. (row_at rows d).unknown_base) (order_of rows c)
 
+-- a class of the order has a keyword in its head
+abbrev pub has_keyword_of : List ClassRow → ClassId → Bool
+has_keyword_of rows c = list_any (λ d. (row_at rows d).keyword) (order_of rows c)
+
 -- the symbol that a list of members has for a name
 abbrev pub symbol_in : NameId → List (NameId × SymId) → Option SymId
 symbol_in name members = lookup (λ n. n.0 == name.0) members
 
+-- the symbol of the class's own member of this name
+abbrev pub own_member_of : List ClassRow → ClassId → NameId → Option SymId
+own_member_of rows c name = symbol_in name (row_at rows c).members
+
 -- the symbol of the first class of the order that has the name among its own members
 abbrev pub member_of : List ClassRow → ClassId → NameId → Option SymId
-member_of rows c name = slice_get (filter_map (λ d. symbol_in name (row_at rows d).members) (order_of rows c)) 0
+member_of rows c name = slice_get (filter_map (λ d. own_member_of rows d name) (order_of rows c)) 0
 
 -- what is merged for a class with these bases
 abbrev pub merged_lists : (ClassId → List ClassId) → List ClassId → List (List ClassId)
@@ -64,13 +69,14 @@ HasOrder lists bases = (has (id_of class.Bool) bases ≡ false) × HasMerge list
 
 -- the order of a class with these bases: itself and a merge of the lists, or else itself and `object`
 abbrev pub IsOrder : List (List ClassId) → List ClassId → ClassId → Bool → List ClassId → Type 0
-IsOrder lists bases c true order = (has (id_of class.Bool) bases ≡ false) × ((rest : List ClassId) × (order ≡ c ∷ rest) × IsMerge lists rest)
+IsOrder lists bases c true order = (has (id_of class.Bool) bases ≡ false) × IsMergeBehind c lists order
 IsOrder lists bases c false order = (HasOrder lists bases → ⊥) × (order ≡ c ∷ id_of class.Object ∷ [])
 
 -- the row of a class, where `orders` has the order of each of its bases
 pub record IsRow (orders : ClassId → List ClassId) (c : ClassId) (class : Class) (row : ClassRow) : Type 0 where
   pub order : IsOrder (merged_lists orders class.bases) class.bases c row.ordered row.order
   pub unknown_base : row.unknown_base ≡ class.unknown_base
+  pub keyword : row.keyword ≡ class.keyword
   pub members : (name : NameId) → symbol_in name row.members ≡ symbol_in name class.members
 
 -- the rows of the classes of a file

@@ -4,9 +4,8 @@ ghost use Rattle.std.specs.List.{list_any};
 ghost use Rattle.class_rows.specs.Classes.{known, is_unknown, or_object, BasesAreEarlier};
 ghost use Rattle.class_rows.specs.Waits.{AreBelow};
 
-use crate::builtin::Builtin;
 use crate::head::{Base, ClassHead};
-use py_base::{ClassId, List, NoMemory};
+use py_base::{Builtin, ClassId, List, NoMemory};
 use std::alloc::Global;
 
 /// The Known ones among the bases, in order. `NoMemory` where they could not be stored.
@@ -61,7 +60,7 @@ pub fn bases_are_earlier(heads: &[ClassHead]) -> bool
     ensures { IsTrue result ↔ BasesAreEarlier heads.now }
 {
     for (place, head) in heads.iter().enumerate() {
-        if !are_below(head.bases.as_slice(), Builtin::ALL.len() + place) {
+        if !are_below(head.bases.as_slice(), Builtin::COUNT + place) {
             return false;
         }
     }

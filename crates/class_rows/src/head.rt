@@ -11,11 +11,14 @@ pub enum Base {
     Unknown,
 }
 
-/// A class statement: the name of the class, its bases in the order of the text, and the symbols
-/// of its members. Where a name comes twice among the members, its first symbol counts.
+/// A class statement.
 #[derive(Drop)]
 pub struct ClassHead {
     pub name: NameId,
+    /// The bases in the order of the text.
     pub bases: List<Base>,
+    /// Whether a keyword argument stands in its head, as in `class C(metaclass=M)`.
+    pub keyword: bool,
+    /// The symbols of the members. Where a name comes twice, its first symbol counts.
     pub members: List<(NameId, SymId)>,
 }

@@ -7,20 +7,21 @@
 //! the other calls answer by these rows.
 //!
 //! The contract cites `IsRows` of `specs/Rows.antt`. It speaks of the classes of a file
-//! (`specs/Classes.antt`, with the table of builtin classes in `specs/Builtins.antt`) and of the
+//! (`specs/Classes.antt`, with the bases of the builtin classes in `specs/Builtins.antt`) and of the
 //! merge (`specs/Merge.antt`). That this leaves no choice, and that an order keeps every order that
 //! it is made of, are the laws of `laws`.
 //!
 //! A chain of n classes has orders of n² / 2 classes in all, since each order names all classes
-//! above. Beside that the rows take time in proportion to the lists that are merged, and for a
-//! class with several bases a step for each base and each class of its order.
+//! above. Beside that the rows take time in proportion to the lists that are merged, but for a
+//! logarithm, however many bases a class has: each class knows the lists that have it, so that
+//! taking it looks at these alone.
 //!
 //! Below this crate stands `py_base` alone.
 #![tactic(auto)]
 
 mod bases;
 mod build;
-mod builtin;
+mod builtin_orders;
 mod head;
 pub mod laws;
 mod linear;
@@ -31,6 +32,5 @@ mod row;
 mod rows;
 
 pub use bases::bases_are_earlier;
-pub use builtin::Builtin;
 pub use head::{Base, ClassHead};
 pub use rows::ClassRows;

@@ -1,16 +1,15 @@
 //! The order of one class.
 ghost use Rattle.std.specs.Prelude.{◌≡◌, ◌++◌, [], ◌∷◌, ◌≤◌, ◌<◌, ℕ, false, length, map, IfOk, OnOk, MatchOption};
-ghost use Rattle.class_rows.specs.Builtins.{id_of};
-ghost use Rattle.class_rows.specs.Merge.{has, IsMerge};
+ghost use Rattle.py_base.specs.Builtins.{id_of};
+ghost use Rattle.class_rows.specs.Merge.{has, IsMergeBehind};
 ghost use Rattle.class_rows.specs.Rows.{order_of, merged_lists, HasOrder};
 ghost use Rattle.class_rows.specs.Table.{IsTable};
 ghost use Rattle.class_rows.specs.Waits.{AreBelow, AreWaits};
 
-use crate::builtin::Builtin;
-use crate::merge::merge;
+use crate::merge::{list_of_one, merge};
 use crate::remainder::Remainder;
 use crate::row::Row;
-use py_base::{ClassId, List, NoMemory};
+use py_base::{Builtin, ClassId, List, NoMemory};
 use std::alloc::Global;
 
 /// A list of its own with these classes.
@@ -49,31 +48,53 @@ fn lists_to_merge(
     Ok(lists.into_vec())
 }
 
-/// What stands behind a class with these bases in its order, and `None` exactly where the bases
-/// give no order: where one of them is `bool`, which no class may extend, or where the orders of
-/// the bases and the list of them have no merge. `waits` is as for `merge`.
+/// The class and behind it the order of its one base.
+fn order_behind(
+    alloc: Global,
+    rows: &[Row],
+    class: ClassId,
+    base: ClassId,
+) -> Result<List<ClassId>, NoMemory>
+    requires { base.0 < length rows.now }
+    ensures { IfOk result (λ order. order ≡ class ∷ order_of rows.now base) }
+{
+    let mut order = list_of_one(alloc, class)?;
+    for above in rows[base.0 as usize].order() {
+        order.push(*above)?;
+    }
+    Ok(order)
+}
+
+/// The order of a class with these bases, and `None` exactly where they give none: where one of them
+/// is `bool`, which no class may extend, or where the orders of the bases and the list of them have
+/// no merge. `waits` and `holders` are as for
+/// `merge`.
 pub(crate) fn linearize(
     alloc: Global,
     rows: &[Row],
+    class: ClassId,
     bases: &[ClassId],
     waits: &mut [usize],
+    holders: &mut [List<usize>],
 ) -> Result<Option<List<ClassId>>, NoMemory>
     requires table { IsTable rows.now }
     requires below { AreBelow (length rows.now) bases.now }
     requires places { length rows.now ≤ length waits.old }
+    requires held { length rows.now ≤ length holders.old }
     requires clear { AreWaits waits.old [] }
     ensures length { length waits.new ≡ length waits.old }
+    ensures holders { length holders.new ≡ length holders.old }
     ensures clear { OnOk result (AreWaits waits.new []) }
-    ensures none { IfOk result (λ found. MatchOption found (HasOrder (merged_lists (order_of rows.now) bases.now) bases.now → ⊥) (λ rest. (has (id_of Builtin.Bool) bases.now ≡ false) × IsMerge (merged_lists (order_of rows.now) bases.now) rest)) }
+    ensures order { IfOk result (λ found. MatchOption found (HasOrder (merged_lists (order_of rows.now) bases.now) bases.now → ⊥) (λ order. (has (id_of Builtin.Bool) bases.now ≡ false) × IsMergeBehind class (merged_lists (order_of rows.now) bases.now) order)) }
 {
     if bases.contains(&Builtin::Bool.id()) {
         return Ok(None);
     }
     // The order of a lone base is the merge as it stands.
     if let [base] = bases {
-        let order = order_of_class(alloc, rows, *base)?;
-        return Ok(Some(List::from_vec(order)));
+        let order = order_behind(alloc, rows, class, *base)?;
+        return Ok(Some(order));
     }
     let mut lists = lists_to_merge(alloc, rows, bases)?;
-    merge(alloc, &mut lists, waits)
+    merge(alloc, class, &mut lists, waits, holders)
 }

@@ -32,11 +32,23 @@ impl Remainder {
         Remainder { classes, taken: 0 }
     }
 
+    /// All classes, also those that are taken.
+    pub(crate) fn all(&self) -> &[ClassId] {
+        self.classes.as_slice()
+    }
+
+    /// The classes that aren't taken yet.
+    pub(crate) fn rest(&self) -> &[ClassId]
+        ensures { result.now ≡ self.now }
+    {
+        &self.classes.as_slice()[self.taken..]
+    }
+
     /// The first class that isn't taken yet.
     pub(crate) fn head(&self) -> Option<ClassId>
         ensures { result ≡ slice_get self.now 0 }
     {
-        self.classes.as_slice()[self.taken..].first().copied()
+        self.rest().first().copied()
     }
 
     /// Whether the class is the first one that isn't taken yet.
@@ -53,7 +65,7 @@ impl Remainder {
     pub(crate) fn tail(&self) -> &[ClassId]
         ensures { result.now ≡ drop 1 self.now }
     {
-        match self.classes.as_slice()[self.taken..].split_first() {
+        match self.rest().split_first() {
             Some((_, tail)) => tail,
             None => &[],
         }

@@ -9,12 +9,13 @@ use std::collections::BTreeMap;
 use std::marker::Model;
 
 /// The row of a class: its order, whether that is an order by the rule of C3, whether the class
-/// has an Unknown base, and its own members.
+/// has an Unknown base and whether it has a keyword in its head, and its own members.
 #[derive(Drop)]
 pub(crate) struct Row {
     order: List<ClassId>,
     ordered: bool,
     unknown_base: bool,
+    keyword: bool,
     members: BTreeMap<NameId, SymId>,
 }
 
@@ -23,7 +24,7 @@ impl Model for Row {
 
     ghost Value = { ClassRow };
 
-    ghost view = { λ row. record { order = row.order; ordered = row.ordered; unknown_base = row.unknown_base; members = row.members.entries } };
+    ghost view = { λ row. record { order = row.order; ordered = row.ordered; unknown_base = row.unknown_base; keyword = row.keyword; members = row.members.entries } };
 }
 
 impl Row {
@@ -32,14 +33,16 @@ impl Row {
         order: List<ClassId>,
         ordered: bool,
         unknown_base: bool,
+        keyword: bool,
         members: BTreeMap<NameId, SymId>,
     ) -> Row
-        ensures { result ≡ record { order = order; ordered = ordered; unknown_base = unknown_base; members = members.entries } }
+        ensures { result ≡ record { order = order; ordered = ordered; unknown_base = unknown_base; keyword = keyword; members = members.entries } }
     {
         Row {
             order,
             ordered,
             unknown_base,
+            keyword,
             members,
         }
     }
@@ -63,6 +66,13 @@ impl Row {
         ensures { result ≡ self.now.unknown_base }
     {
         self.unknown_base
+    }
+
+    /// Whether the class statement has a keyword in its head.
+    pub(crate) fn has_keyword(&self) -> bool
+        ensures { result ≡ self.now.keyword }
+    {
+        self.keyword
     }
 
     /// The symbol of the class's own member of this name; `None` exactly where it has none.

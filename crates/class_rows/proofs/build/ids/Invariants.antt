@@ -1,5 +1,5 @@
 use Rattle.std.proofs.Common.{◌≡◌, map, take}
-use Rattle.class_rows.specs.Builtins.{id_of}
+use Rattle.py_base.specs.Builtins.{id_of}
 use Rattle.class_rows.proofs.build.ids.Given as goal
 
 abbrev pub invariant-loop-builtin : goal.invariant-loop-builtin

@@ -16,6 +16,7 @@ loop-head-init c =
       built = subst P (sym c.requires.builtin) built_builtins;
       count = ap length c.requires.builtin;
       places = c.requires.places;
+      held = c.requires.held;
       clear = c.requires.clear;
     }
 
@@ -39,5 +40,6 @@ loop-head-preserved c =
       built = subst H (sym taken) (subst R (sym c.in_ok-push.ensures.ok) more);
       count = ap length c.in_ok-push.ensures.ok ∙ length_push rows c.in_ok-row.row ∙ omega (arith, c.loop-head.invariant.count);
       places = c.file_row.ensures.length ∙ c.loop-head.invariant.places;
+      held = c.file_row.ensures.holders ∙ c.loop-head.invariant.held;
       clear = c.in_ok-row.ensures.clear;
     }

@@ -8,5 +8,6 @@ invariant-loop-head l = record {
   built : IsBuilt (take l.head-index l.heads) l.rows;
   count : length l.rows ≡ 53 + l.head-index;
   places : length l.waits ≡ 53 + length l.heads;
+  held : length l.holders ≡ 53 + length l.heads;
   clear : AreWaits l.waits [];
 }

@@ -1,34 +1,35 @@
-use Rattle.std.proofs.Common.{sym, drop, ◌+◌, ◌∙◌, arith}
-use Rattle.class_rows.specs.Merge.{is_good}
-use Rattle.class_rows.proofs.Counting.{good_from_zero, bad_from_more}
-use Rattle.class_rows.proofs.Picking.{head_below, find_yes, find_no, find_past, next_list}
+use Rattle.std.proofs.Common.{◌≡◌, ◌<◌, true, false, [], ℕ, sym, subst, ap, ◌∙◌, rules, arith}
+use Rattle.std.specs.Prelude.{Option, Some, None, IfSome, slice_get, slice_index_or}
+use Rattle.std.specs.BTreeSet.{contains}
+use Rattle.std.specs.Ordering.{nat_cmp}
+use Rattle.std.proofs.lemmas.Bool.{false≢true}
+use Rattle.class_rows.specs.Waits.{free_in, IsFirst}
+use Rattle.class_rows.proofs.Taking.{pick_free, pick_none}
 use Rattle.class_rows.proofs.merge.pick_head.Goals as goal
-use Rattle.class_rows.proofs.merge.pick_head.Goals.{in-Some+else-waits-head-eq0, in_default}
 
-pub returns-then-waits-head-eq0 : goal.returns-then-waits-head-eq0
-returns-then-waits-head-eq0 c =
+pub returns-in-Some-free_head-clause-pick : goal.returns-in-Some-free_head-clause-pick
+returns-in-Some-free_head-clause-pick c =
     let lists = c.args.lists.now in
-    let list = c.list-item.result in
-    let i = c.loop-list.list-index in
-    let head = c.in-Some.head in
-    let first = sym c.head.ensures ∙ c.in-Some.is in
-    let below = head_below _ lists i list head c.requires.below (omega arith) c.list-item.is first in
-    let good = good_from_zero head lists (sym (c.requires.waits head.0 below) ∙ c.if-waits-head-eq0.true) in
-    sym (find_yes (is_good lists) head list (drop (i + 1) lists) first good)
-    ∙ sym (next_list (is_good lists) lists i list (omega arith) c.list-item.is)
-    ∙ c.loop-list.invariant
+    let waits = c.args.waits.now in
+    let place = c.in-Some.place in
+    let list = c.in-Some-get.list.now in
+    let here : list ≡ slice_index_or lists place [] = c.in-Some-get.ensures.lookup.3.1 [] in
+    let free : free_in waits list ≡ Some c.in-Some-free_head.head = sym c.free_head.ensures ∙ c.in-Some-free_head.is in
+    let P : Option ℕ → Type 0 = IsFirst c.loop-place.ready in
+    let first = subst P c.in-Some.is c.first_place.ensures.first in
+    sym (pick_free waits lists c.requires.below c.requires.waits place c.in-Some-free_head.head (ap (free_in waits) (sym here) ∙ free)
+    (λ j d less e. absurd (omega (arith, less, first j (c.loop-place.invariant j d e)))))
 
-pub loop-list-preserved : goal.loop-list-preserved
-loop-list-preserved c =
-    let lists = c.args.lists.now in
-    let list = c.list-item.result in
-    let i = c.loop-list.list-index in
-    let here = sym (next_list (is_good lists) lists i list (omega arith) c.list-item.is) ∙ c.loop-list.invariant in
-    elim c.match-head.branch [
-      | in-Some+else-waits-head-eq0 w ↦
-          let first = sym c.head.ensures ∙ w.in-Some.is in
-          let below = head_below _ lists i list w.in-Some.head c.requires.below (omega arith) c.list-item.is first in
-          let bad = bad_from_more w.in-Some.head lists (λ none. w.if-waits-head-eq0.false (c.requires.waits w.in-Some.head.0 below ∙ none)) in
-          sym (find_no (is_good lists) w.in-Some.head list (drop (i + 1) lists) first bad) ∙ here
-      | in_default w ↦ sym (find_past (is_good lists) list (drop (i + 1) lists) (sym c.head.ensures ∙ w.in_default.is)) ∙ here
-    ]
+pub loop-place-smaller : goal.loop-place-smaller
+loop-place-smaller c =
+    let P : Option ℕ → Type 0 = λ o. IfSome o (λ k. contains nat_cmp c.loop-place.ready k ≡ true) in
+    let member = subst P c.in-Some.is c.first_place.ensures.member in
+    let removed : c.remove.result ≡ true = c.remove.ensures.test ∙ member in
+    omega (arith, rw removed at c.remove.ensures.len)
+
+pub returns-clause-pick : goal.returns-clause-pick
+returns-clause-pick c =
+    let P : Option ℕ → Type 0 = IsFirst c.loop-place.ready in
+    let none : c.first_place.result ≡ None = search rules in
+    let first = subst P none c.first_place.ensures.first in
+    sym (pick_none c.args.waits.now c.args.lists.now c.requires.below c.requires.waits (λ j d e. false≢true (sym (first j) ∙ c.loop-place.invariant j d e)))

@@ -1,15 +1,13 @@
-use Rattle.std.proofs.Common.{◌≡◌, List, length, subst, sym, arith}
-use Rattle.std.proofs.lemmas.Grind.{common_steps}
-use Rattle.py_base.specs.declared.ids.ClassId.{ClassId}
-use Rattle.class_rows.specs.Rows.{ClassRow, order_of}
-use Rattle.class_rows.specs.Table.{IsSound, IsTable}
+use Rattle.std.proofs.Common.{sym, ◌∙◌}
+use Rattle.std.proofs.lemmas.Bool.{false≢true}
+use Rattle.class_rows.proofs.Growing.{order_past}
 use Rattle.class_rows.proofs.rows.ClassRows.mro.Goals as goal
 
-pub returns-clause-sound : goal.returns-clause-sound
-returns-clause-sound c =
-    let rows = c.args.self.now in
-    let T : List ClassRow → Type 0 = IsTable in
-    let table = subst T c.self.view_is c.self.invariant in
-    let P : List ClassId → Type 0 = IsSound (length rows) c.args.class in
-    let same : c.order.result.now ≡ order_of rows c.args.class = grind (arith, common_steps) in
-    subst P (sym same) (table c.args.class c.requires)
+pub returns-then-has_class-clause-sound : goal.returns-then-has_class-clause-sound
+returns-then-has_class-clause-sound c = λ _. c.order.ensures.sound
+
+pub returns-else-has_class-clause-order : goal.returns-else-has_class-clause-order
+returns-else-has_class-clause-order c = sym (order_past c.args.self.now c.args.class (λ within. false≢true (sym c.if-has_class.false ∙ c.has_class.ensures.1 within)))
+
+pub returns-else-has_class-clause-sound : goal.returns-else-has_class-clause-sound
+returns-else-has_class-clause-sound c = λ within. absurd (false≢true (sym c.if-has_class.false ∙ c.has_class.ensures.1 within))
