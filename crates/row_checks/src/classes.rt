@@ -1,17 +1,21 @@
 //! Class statements by letters, and what their rows say.
 //!
 //! A source is a table of class statements, parted by ` / `. The words of one are its bases, a letter for a class of
-//! the source, a number for a builtin class and `?` for one that is unknown, and members, as `1=10`. A fact is a class
-//! with its order, `!` where the bases give none, `open`, and the members that it has.
+//! the source, a number for a builtin class and `?` for one that is unknown, members, as `1=10`, and `metaclass` for a
+//! keyword in its head. A fact is a class with its order, `!` where the bases give none, `open`, `keyword`, and the
+//! members that it has.
 
 use crate::nodes::number;
 use class_rows::{Base, ClassHead, ClassRows, bases_are_earlier};
-use py_base::{ClassId, List, NameId, NoMemory, SymId};
+use py_base::{Builtin, ClassId, List, NameId, NoMemory, SymId};
 use std::alloc::{AllocError, Global};
 use std::fmt::Write;
 
 /// The number of the first class of a source.
-const FIRST: u32 = 53;
+const FIRST: u32 = Builtin::COUNT as u32;
+
+/// A table has fewer class statements than this.
+const MOST_HEADS: usize = 1_073_741_824;
 
 // The class of a letter, or of a number.
 fn class_of(word: &str) -> ClassId {
@@ -35,6 +39,10 @@ fn add_word(head: &mut ClassHead, word: &str) -> Result<(), NoMemory> {
             let member = (NameId(number(name)), SymId(number(symbol)));
             head.members.push(member)
         }
+        None if word == "metaclass" => {
+            head.keyword = true;
+            Ok(())
+        }
         None => head.bases.push(base_of(word)),
     }
 }
@@ -43,6 +51,7 @@ fn statement(alloc: Global, text: &str) -> Result<ClassHead, NoMemory> {
     let mut head = ClassHead {
         name: NameId(0),
         bases: List::new(alloc),
+        keyword: false,
         members: List::new(alloc),
     };
     for word in text.split_whitespace() {
@@ -87,9 +96,6 @@ fn show_member(
     class: ClassId,
     name: u32,
 ) -> Result<(), AllocError> {
-    if !rows.has_class(class) {
-        return Ok(());
-    }
     match rows.member(class, NameId(name)) {
         Some(symbol) => write!(out, "{name}={} ", symbol.0),
         None => Ok(()),
@@ -110,6 +116,7 @@ fn show_row(out: &mut String, rows: &ClassRows, class: ClassId) -> Result<(), Al
     show_order(out, rows.mro(class))?;
     show_mark(out, !rows.has_order(class), "!")?;
     show_mark(out, rows.is_open(class), "open")?;
+    show_mark(out, rows.has_keyword(class), "keyword")?;
     show_members(out, rows, class)
 }
 
@@ -130,6 +137,9 @@ fn add_class(
 
 fn all_classes(alloc: Global, heads: &[ClassHead]) -> Result<Vec<String>, NoMemory> {
     let mut facts = Vec::new(alloc);
+    if heads.len() >= MOST_HEADS {
+        return Err(NoMemory);
+    }
     if !bases_are_earlier(heads) {
         facts.push(String::from_str(alloc, "a later base")?)?;
         return Ok(facts);
