@@ -16,16 +16,16 @@ returns-in_err-id-clause-older c = Extends-same _ _ c.requires.linked c.in_err-i
 
 pub returns-clause-older : goal.returns-clause-older
 returns-clause-older c =
-    (node_added c.args.tree.now c.add.new.self (record { kind = c.args.kind; span = c.args.span; parts = c.in_ok-ids.ids; word = c.args.word }) (record { id = c.in_ok-id.id; form = c.args.form; kind = c.args.kind; span = c.args.span; height = c.height_over-height.result; proper = c.is_proper_over-proper.result; target = c.is_target_over-target.result; colon = c.has_colon_over-colon.result; signed = c.is_signed_over-signed.result; unreal = c.is_unreal_over-unreal.result }) c.args.parts.now c.requires.linked c.requires.known c.requires.named c.in_ok-ids.ensures c.in_ok-id.ensures.ok c.in_ok-id.ensures.id refl refl c.height_over-height.ensures c.is_proper_over-proper.ensures c.is_target_over-target.ensures c.has_colon_over-colon.ensures c.is_signed_over-signed.ensures c.is_unreal_over-unreal.ensures).0
+    (node_added c.args.tree.now c.add.new.tree (record { kind = c.args.kind; span = c.args.span; parts = c.in_ok-ids.ids; word = c.args.word }) (record { id = c.in_ok-id.id; form = c.args.form; kind = c.args.kind; span = c.args.span; height = c.height_over-height.result; proper = c.is_proper_over-proper.result; target = c.is_target_over-target.result; colon = c.has_colon_over-colon.result; signed = c.is_signed_over-signed.result; unreal = c.is_unreal_over-unreal.result }) c.args.parts.now c.requires.linked c.requires.known c.requires.named c.in_ok-ids.ensures c.in_ok-id.ensures.ok c.in_ok-id.ensures.id refl refl c.height_over-height.ensures c.is_proper_over-proper.ensures c.is_target_over-target.ensures c.has_colon_over-colon.ensures c.is_signed_over-signed.ensures c.is_unreal_over-unreal.ensures).0
 
 pub returns-clause-node : goal.returns-clause-node
 returns-clause-node c =
-    let r = node_added c.args.tree.now c.add.new.self (record { kind = c.args.kind; span = c.args.span; parts = c.in_ok-ids.ids; word = c.args.word }) (record { id = c.in_ok-id.id; form = c.args.form; kind = c.args.kind; span = c.args.span; height = c.height_over-height.result; proper = c.is_proper_over-proper.result; target = c.is_target_over-target.result; colon = c.has_colon_over-colon.result; signed = c.is_signed_over-signed.result; unreal = c.is_unreal_over-unreal.result }) c.args.parts.now c.requires.linked c.requires.known c.requires.named c.in_ok-ids.ensures c.in_ok-id.ensures.ok c.in_ok-id.ensures.id refl refl c.height_over-height.ensures c.is_proper_over-proper.ensures c.is_target_over-target.ensures c.has_colon_over-colon.ensures c.is_signed_over-signed.ensures c.is_unreal_over-unreal.ensures in
+    let r = node_added c.args.tree.now c.add.new.tree (record { kind = c.args.kind; span = c.args.span; parts = c.in_ok-ids.ids; word = c.args.word }) (record { id = c.in_ok-id.id; form = c.args.form; kind = c.args.kind; span = c.args.span; height = c.height_over-height.result; proper = c.is_proper_over-proper.result; target = c.is_target_over-target.result; colon = c.has_colon_over-colon.result; signed = c.is_signed_over-signed.result; unreal = c.is_unreal_over-unreal.result }) c.args.parts.now c.requires.linked c.requires.known c.requires.named c.in_ok-ids.ensures c.in_ok-id.ensures.ok c.in_ok-id.ensures.id refl refl c.height_over-height.ensures c.is_proper_over-proper.ensures c.is_target_over-target.ensures c.has_colon_over-colon.ensures c.is_signed_over-signed.ensures c.is_unreal_over-unreal.ensures in
     (r.1, refl, r.2)
 
 pub returns-clause-keeps : goal.returns-clause-keeps
 returns-clause-keeps c =
-    Keeps-node c.args.tree.now c.add.new.self (record { kind = c.args.kind; span = c.args.span; parts = c.in_ok-ids.ids; word = c.args.word }) c.in_ok-id.id (found_ids c.args.parts.now) c.requires.linked (older-found c.args.tree.now c.args.parts.now c.requires.known) c.in_ok-ids.ensures c.in_ok-id.ensures.ok c.in_ok-id.ensures.id
+    Keeps-node c.args.tree.now c.add.new.tree (record { kind = c.args.kind; span = c.args.span; parts = c.in_ok-ids.ids; word = c.args.word }) c.in_ok-id.id (found_ids c.args.parts.now) c.requires.linked (older-found c.args.tree.now c.args.parts.now c.requires.known) c.in_ok-ids.ensures c.in_ok-id.ensures.ok c.in_ok-id.ensures.id
 
 pub returns-clause-grows : goal.returns-clause-grows
-returns-clause-grows c = adds-node c.args.tree.now c.add.new.self _ c.in_ok-id.ensures.ok
+returns-clause-grows c = adds-node c.args.tree.now c.add.new.tree _ c.in_ok-id.ensures.ok
