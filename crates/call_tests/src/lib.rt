@@ -1,0 +1,12 @@
+//! Tests of what no text shows: devices that fail and answer in pieces, values that are made by hand, and the calls of
+//! the lowest crates that take memory.
+//!
+//! What a text shows stands as rows in `row_checks`. There is no code but tests.
+#![tactic(auto)]
+
+#[cfg(test)]
+mod compare;
+#[cfg(test)]
+mod devices;
+#[cfg(test)]
+mod values;
