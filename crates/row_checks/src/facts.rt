@@ -1,7 +1,9 @@
 //! What rows are about.
 
 use crate::sources::flow_of;
-use crate::{classes, edges, faults, lines, places, references, scopes, symbols, tokens, trees};
+use crate::{
+    classes, edges, faults, lines, listing, places, references, scopes, symbols, tokens, trees,
+};
 use py_base::NoMemory;
 use std::alloc::Global;
 
@@ -46,6 +48,8 @@ pub enum Subject {
     Cases,
     /// The orders of class statements.
     ClassOrder,
+    /// The list of a text.
+    Listing,
 }
 
 /// All facts of a source that a subject has.
@@ -63,6 +67,7 @@ pub fn facts(alloc: Global, subject: Subject, source: &str) -> Result<Vec<String
         Subject::Casts => symbols::cast_facts(alloc, source),
         Subject::Tested => references::tested_facts(alloc, source),
         Subject::ClassOrder => classes::facts(alloc, source),
+        Subject::Listing => listing::facts(alloc, source),
         _ => flow_facts(alloc, subject, source),
     }
 }

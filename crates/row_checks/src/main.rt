@@ -14,6 +14,7 @@ mod edges;
 mod facts;
 mod faults;
 mod lines;
+mod listing;
 mod nodes;
 mod places;
 mod references;
@@ -28,7 +29,7 @@ use facts::Subject;
 use std::{fs, io};
 
 /// The files of rows, and what each is about.
-const FILES: [(&str, Subject); 19] = [
+const FILES: [(&str, Subject); 20] = [
     ("places", Subject::Places),
     ("tokens", Subject::Tokens),
     ("expressions", Subject::Expressions),
@@ -48,6 +49,7 @@ const FILES: [(&str, Subject); 19] = [
     ("tested", Subject::Tested),
     ("cases", Subject::Cases),
     ("class_order", Subject::ClassOrder),
+    ("listing", Subject::Listing),
 ];
 
 fn main(rt: HostRuntime) -> io::Result<()> {
