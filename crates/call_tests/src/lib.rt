@@ -1,5 +1,5 @@
-//! Tests of what no text shows: devices that fail and answer in pieces, sessions over them, values that are made by hand,
-//! and the calls of the lowest crates that take memory.
+//! Tests of what no text shows: devices that fail and answer in pieces, sessions over them, values and types that are made
+//! by hand, and the calls of the lowest crates that take memory.
 //!
 //! What a text shows stands as rows in `row_checks`. There is no code but tests.
 #![tactic(auto)]
@@ -10,5 +10,7 @@ mod compare;
 mod devices;
 #[cfg(test)]
 mod sessions;
+#[cfg(test)]
+mod types;
 #[cfg(test)]
 mod values;
