@@ -109,8 +109,8 @@ fn module(rt: HostRuntime, layer: &str, cut: &Cut) -> io::Result<()> {
         return println!(rt; "no memory");
     };
     println!(rt;
-        "fault {:?} nodes {}",
-        module.fault,
+        "faults {} nodes {}",
+        module.faults.as_slice().len(),
         module.tree.node_count()
     )?;
     if layer == "module" {

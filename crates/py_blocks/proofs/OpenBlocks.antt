@@ -1,30 +1,19 @@
 -- The open blocks at a line are all the lines in whose blocks it stands, and those at the next line follow from them.
 use Rattle.std.proofs.Common.{◌≡◌, ℕ, zero, suc, ◌+◌, ◌<◌, ◌≤◌, nat_lt, nat_le, Bool, true, false, not, ◌&&◌, ◌||◌, List, [], ◌∷◌, ◌++◌, refl, sym, ◌∙◌, ap, arith, cond, fold, add-zero}
-use Rattle.std.specs.Prelude.{count_by}
 use Rattle.std.specs.List.{list_any, list_all, filter, range_with_len}
 use Rattle.std.proofs.lemmas.List.Elements.{filter-append}
 use Rattle.std.proofs.lemmas.Bool.{lt-ltb, lt-leb, le-leb}
 use Rattle.py_blocks.specs.declared.facts.LineFacts.{LineFacts}
 use Rattle.py_blocks.specs.declared.sort.Sort.{Sort}
-use Rattle.py_blocks.specs.declared.sort.Sort.TheVariants as sorts
-use Rattle.py_blocks.specs.Blocks.{column_at, is_a, stays_right_of, encloses, encloses_as, stands_in, lies_between, is_in_loop_at}
-use Rattle.py_blocks.specs.Search.{some_below, each_below, count_below}
-use Rattle.py_blocks.specs.Shortcuts.{open_at, opens_one, count_open}
+use Rattle.py_blocks.specs.Enclosing.{column_at, is_a, stays_right_of, encloses, encloses_as, lies_between}
+use Rattle.py_blocks.specs.Search.{each_below}
+use Rattle.py_blocks.specs.Innermost.{open_at}
 
 -- ---- searches of the open blocks, which only proofs speak of
 
 -- behind the line j an open block is of this sort
 abbrev pub opens_inside : List LineFacts → Sort → List ℕ → ℕ → Bool
 opens_inside lines s open_blocks j = list_any (λ k. nat_lt j k && is_a lines k s) open_blocks
-
-abbrev pub is_loop_open : List LineFacts → List ℕ → ℕ → Bool
-is_loop_open lines open_blocks j = is_a lines j sorts.Loop && not (opens_inside lines sorts.Scope open_blocks j)
-
-abbrev pub opens_loop : List LineFacts → List ℕ → Bool
-opens_loop lines open_blocks = list_any (λ j. is_loop_open lines open_blocks j) open_blocks
-
-abbrev pub has_behind : List ℕ → ℕ → Bool
-has_behind open_blocks j = list_any (λ k. nat_lt j k) open_blocks
 
 -- ---- tests
 
@@ -65,46 +54,11 @@ any-through e t f (x ∷ xs) h = go (e x) refl (any-through e t f xs h)
     go true i k = rw (h x, i, and-true (t x), k) refl
     go false i k = rw (h x, i, and-false (t x), k) refl
 
-abbrev counted : (ℕ → Bool) → ℕ → ℕ → ℕ
-counted f n x = n + cond (f x) 1 0
-
-fold-through : (e t f : ℕ → Bool) (xs : List ℕ) → ((x : ℕ) → f x ≡ (t x && e x)) → (n : ℕ) → fold (counted f) n xs ≡ fold (counted t) n (filter e xs)
-fold-through e t f [] h n = refl
-fold-through e t f (x ∷ xs) h n = go (e x) refl (fold-through e t f xs h)
-  where
-    go : (b : Bool) → e x ≡ b → ((m : ℕ) → fold (counted f) m xs ≡ fold (counted t) m (filter e xs)) → fold (counted f) (n + cond (f x) 1 0) xs ≡ fold (counted t) n (filter e (x ∷ xs))
-    go true i k =
-        let a : f x ≡ t x = h x ∙ (ap (λ b. t x && b) i ∙ and-true (t x)) in
-        let rest : fold (counted t) (n + cond (t x) 1 0) (filter e xs) ≡ fold (counted t) n (filter e (x ∷ xs)) = rw i refl in
-        ap (λ b. fold (counted f) (n + cond b 1 0) xs) a ∙ (k (n + cond (t x) 1 0) ∙ rest)
-    go false i k =
-        let a : f x ≡ false = h x ∙ (ap (λ b. t x && b) i ∙ and-false (t x)) in
-        let rest : fold (counted t) n (filter e xs) ≡ fold (counted t) n (filter e (x ∷ xs)) = rw i refl in
-        ap (λ b. fold (counted f) (n + cond b 1 0) xs) a ∙ (ap (λ m. fold (counted f) m xs) (add-zero n) ∙ (k n ∙ rest))
-
-count-through : (e t f : ℕ → Bool) (xs : List ℕ) → ((x : ℕ) → f x ≡ (t x && e x)) → count_by f xs ≡ count_by t (filter e xs)
-count-through e t f xs h = fold-through e t f xs h 0
-
 -- ---- the rules by the open blocks
-
-pub stands-open : (lines : List LineFacts) (s : Sort) (i : ℕ) → stands_in lines s i ≡ opens_one lines s (open_at lines i)
-stands-open lines s i = any-through (λ j. encloses lines j i) (λ j. is_a lines j s) (λ j. encloses_as lines s j i) (range_with_len 0 i) (λ j. refl)
-
-pub count-open : (lines : List LineFacts) (s : Sort) (i : ℕ) → count_below i (λ j. encloses_as lines s j i) ≡ count_open lines s (open_at lines i)
-count-open lines s i = count-through (λ j. encloses lines j i) (λ j. is_a lines j s) (λ j. encloses_as lines s j i) (range_with_len 0 i) (λ j. refl)
 
 pub inside-open : (lines : List LineFacts) (s : Sort) (i j : ℕ) → lies_between lines s j i ≡ opens_inside lines s (open_at lines i) j
 inside-open lines s i j =
     any-through (λ k. encloses lines k i) (λ k. nat_lt j k && is_a lines k s) (λ k. nat_lt j k && encloses_as lines s k i) (range_with_len 0 i) (λ k. and-assoc (nat_lt j k) (is_a lines k s) (encloses lines k i))
-
-pub loop-open : (lines : List LineFacts) (i : ℕ) → some_below i (λ j. is_in_loop_at lines j i) ≡ opens_loop lines (open_at lines i)
-loop-open lines i =
-    any-through (λ j. encloses lines j i) (λ j. is_loop_open lines (open_at lines i) j) (λ j. is_in_loop_at lines j i) (range_with_len 0 i) (λ j.
-    and-last (is_a lines j sorts.Loop) (encloses lines j i) (not (lies_between lines sorts.Scope j i)) ∙ ap (λ b. (is_a lines j sorts.Loop && not b) && encloses lines j i) (inside-open lines sorts.Scope i j))
-
-pub behind-open : (lines : List LineFacts) (i m : ℕ) → some_below i (λ k. nat_lt m k && encloses lines k i) ≡ has_behind (open_at lines i) m
-behind-open lines i m =
-    any-through (λ k. encloses lines k i) (λ k. nat_lt m k) (λ k. nat_lt m k && encloses lines k i) (range_with_len 0 i) (λ k. refl)
 
 -- ---- from a line to the next
 

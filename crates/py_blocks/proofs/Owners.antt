@@ -7,22 +7,18 @@ use Rattle.std.specs.Cmp.Lexicographic.{slice_cmp}
 use Rattle.std.proofs.lemmas.Bool.{ltb-true, ltb-false, eqb-true, eq-eqb}
 use Rattle.std.proofs.lemmas.Map.Text.{is_eq-slice_cmp}
 use Rattle.py_blocks.specs.declared.facts.LineFacts.{LineFacts}
-use Rattle.py_blocks.specs.declared.links.Link.{Link}
 use Rattle.py_blocks.specs.declared.name_sets.Naming.{Naming}
 use Rattle.py_blocks.specs.declared.name_sets.Naming.TheVariants as namings
 use Rattle.py_blocks.specs.declared.sort.Sort.TheVariants as sorts
 use Rattle.py_blocks.specs.Facts.{among}
-use Rattle.py_blocks.specs.Blocks.{line_at, no_line, is_a, encloses, lies_between, is_innermost}
+use Rattle.py_blocks.specs.Enclosing.{line_at, no_line, is_a, encloses, lies_between, is_innermost}
 use Rattle.py_blocks.specs.Names.{is_body_of, binds_in, declares_in, owns, is_owned_around, is_parameter_around}
 use Rattle.py_blocks.specs.Search.{some_below}
-use Rattle.py_blocks.specs.Shortcuts.{open_at}
-use Rattle.py_blocks.specs.Links.{links_of, scope_at}
-use Rattle.py_blocks.specs.Kept.{has_one, link_in}
+use Rattle.py_blocks.specs.Innermost.{open_at, scopes_of, scope_at, scope_in, has_one}
 use Rattle.py_blocks.specs.NameSets.{gives, body_in, holder_in, names_of, owns_open}
 use Rattle.py_blocks.proofs.OpenBlocks.{and-true, and-false, any-through, inside-open}
 use Rattle.py_blocks.proofs.Searches.{others-none, only-found, some-at}
-use Rattle.py_blocks.proofs.Linking.{scope-behind}
-use Rattle.py_blocks.proofs.Asking.{and-turned, any-turned, no-line, link-of, innermost-one, innermost-below}
+use Rattle.py_blocks.proofs.Finding.{scope-behind, and-turned, any-turned, no-line, scope-of, innermost-one, innermost-below}
 
 -- ---- a name and its def or class, compared to another
 
@@ -61,20 +57,20 @@ or-added false false = refl
 
 -- ---- which names a line gives
 
-scope-is : (lines : List LineFacts) (i d : ℕ) → i < length lines → has_one (λ k. k == d) (link_in (links_of lines) i).scope ≡ is_innermost lines sorts.Scope d i
+scope-is : (lines : List LineFacts) (i d : ℕ) → i < length lines → has_one (λ k. k == d) (scope_in (scopes_of lines) i) ≡ is_innermost lines sorts.Scope d i
 scope-is lines i d lt =
-    ap (λ (l : Link). has_one (λ k. k == d) l.scope) (link-of lines i lt)
+    ap (λ o. has_one (λ k. k == d) o) (scope-of lines i lt)
     ∙ only-found (λ e. is_innermost lines sorts.Scope e i) i (innermost-one lines sorts.Scope i) (innermost-below lines sorts.Scope i) d
 
-body-is : (lines : List LineFacts) (i d : ℕ) → i < length lines → has_one (λ k. k == d) (body_in lines (links_of lines) i) ≡ is_body_of lines d i
+body-is : (lines : List LineFacts) (i d : ℕ) → i < length lines → has_one (λ k. k == d) (body_in lines (scopes_of lines) i) ≡ is_body_of lines d i
 body-is lines i d lt = go (is_a lines i sorts.Scope) refl
   where
-    go : (b : Bool) → is_a lines i sorts.Scope ≡ b → has_one (λ k. k == d) (body_in lines (links_of lines) i) ≡ is_body_of lines d i
+    go : (b : Bool) → is_a lines i sorts.Scope ≡ b → has_one (λ k. k == d) (body_in lines (scopes_of lines) i) ≡ is_body_of lines d i
     go true h = rw h (eqb-turned i d)
     go false h = rw h (scope-is lines i d lt)
 
 pub given-by : (lines : List LineFacts) (naming : Naming) (n : List ℕ) (d i : ℕ) → i < length lines
-    → (has_one (λ k. k == d) (holder_in lines (links_of lines) naming i) && among n (names_of (line_at lines i) naming)) ≡ gives lines naming n d i
+    → (has_one (λ k. k == d) (holder_in lines (scopes_of lines) naming i) && among n (names_of (line_at lines i) naming)) ≡ gives lines naming n d i
 given-by lines namings.Parameter n d i lt = and-turned (i == d) (among n (line_at lines i).parameters)
 given-by lines namings.Suite n d i lt = and-turned (i == d) (among n (line_at lines i).suite)
 given-by lines namings.Bound n d i lt =
@@ -133,9 +129,9 @@ body-below lines i d lt h = go (is_a lines i sorts.Scope) refl
     go true g = let same : (d == i) ≡ true = rw g at h in omega (arith, lt, eqb-true d i same)
     go false g = let inner : is_innermost lines sorts.Scope d i ≡ true = rw g at h in omega (arith, lt, innermost-below lines sorts.Scope i d inner)
 
-pub parameter-around : (lines : List LineFacts) (i : ℕ) (n : List ℕ) → i < length lines → is_parameter_around lines i n ≡ has_one (λ d. among n (line_at lines d).parameters) (body_in lines (links_of lines) i)
+pub parameter-around : (lines : List LineFacts) (i : ℕ) (n : List ℕ) → i < length lines → is_parameter_around lines i n ≡ has_one (λ d. among n (line_at lines d).parameters) (body_in lines (scopes_of lines) i)
 parameter-around lines i n lt =
-    any-held (body_in lines (links_of lines) i) (λ d. is_body_of lines d i) (λ d. among n (line_at lines d).parameters) (length lines) (λ d. body-is lines i d lt) (λ d h. body-below lines i d lt h)
+    any-held (body_in lines (scopes_of lines) i) (λ d. is_body_of lines d i) (λ d. among n (line_at lines d).parameters) (length lines) (λ d. body-is lines i d lt) (λ d h. body-below lines i d lt h)
 
 -- ---- defs around
 

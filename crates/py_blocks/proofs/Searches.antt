@@ -4,7 +4,7 @@ use Rattle.std.specs.List.{find, list_any, list_all, filter, range_with_len}
 use Rattle.std.proofs.lemmas.Bool.{lt-ltb, le-ltb, ltb-true, ltb-false, eqb-true, eq-eqb}
 use Rattle.std.proofs.lemmas.List.Folds.{list_any-append}
 use Rattle.py_blocks.specs.Search.{some_below, each_below}
-use Rattle.py_blocks.specs.Kept.{has_one}
+use Rattle.py_blocks.specs.Innermost.{has_one}
 use Rattle.py_blocks.proofs.OpenBlocks.{and-true, and-false, range-more}
 
 -- ---- a search through what a filter keeps
@@ -29,16 +29,6 @@ others-none e f k one h g (x ∷ xs) = go (e x) refl (others-none e f k one h g 
     go : (b : Bool) → e x ≡ b → list_any (λ p. e p && f p) xs ≡ false → list_any (λ p. e p && f p) (x ∷ xs) ≡ false
     go true i r = let s : f x ≡ false = ap f (one x k i h) ∙ g in rw (i, s, r) refl
     go false i r = rw (i, r) refl
-
--- whether that number passes another test
-pub one-found : (e f : ℕ → Bool) → IsOne e → (xs : List ℕ) → list_any (λ p. e p && f p) xs ≡ has_one f (find e xs)
-one-found e f one [] = refl
-one-found e f one (x ∷ xs) = go (e x) refl (f x) refl (one-found e f one xs)
-  where
-    go : (b : Bool) → e x ≡ b → (c : Bool) → f x ≡ c → list_any (λ p. e p && f p) xs ≡ has_one f (find e xs) → list_any (λ p. e p && f p) (x ∷ xs) ≡ has_one f (find e (x ∷ xs))
-    go true i true j r = rw (i, j) refl
-    go true i false j r = rw (i, j, others-none e f x one i j xs) refl
-    go false i c j r = rw (i, r) refl
 
 find-passes : (e : ℕ → Bool) (xs : List ℕ) (k : ℕ) → find e xs ≡ Some k → e k ≡ true
 find-passes e [] k h = cc
@@ -210,12 +200,3 @@ any-last s e d a (suc n) = go (e a) refl (any-last s e d (a + 1) n)
         by false j b l =
             ap (λ x. (nat_lt d a && s a) || x) (any-less (λ k. nat_lt d k) s ys j)
             ∙ (one (s a) refl (nat_lt d a) refl ∙ ap (has_one (λ k. nat_lt d k)) (sym (last-any s ys here ∙ ap (λ c. cond c (last_or_else s None ys) here) j)))
-
--- the last number of a list
-last-number : (x : ℕ) (xs : List ℕ) → last_or_else (λ j. true) (Some x) xs ≡ slice_get (x ∷ xs) (length xs)
-last-number x [] = refl
-last-number x (y ∷ ys) = last-number y ys
-
-pub last-of_all : (xs : List ℕ) → last_or_else (λ j. true) None xs ≡ slice_get xs (length xs - 1)
-last-of_all [] = refl
-last-of_all (x ∷ xs) = let e : length (x ∷ xs) - 1 ≡ length xs = omega arith in rw e (last-number x xs)

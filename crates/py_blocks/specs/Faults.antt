@@ -1,48 +1,68 @@
--- The first faulty line of a text, of all that are faulty by a token, by having no tree or by a rule of blocks, each taken over the
--- whole text (Python 3.12 language reference, 2.1, "Line structure", and 8, "Compound statements").
-use Rattle.std.specs.Prelude.{◌≡◌, ◌<◌, ℕ, Bool, ◌||◌, not, Option, Some, None, List, [], ◌∷◌, map, option_map, length, if◌then◌else◌}
+-- What the nesting of a text says of its lines: which stand, and with what faults the error lines do (Python 3.12 language reference, 2.1,
+-- "Line structure", 7 and 8).
+use Rattle.std.specs.Prelude.{◌≡◌, ◌<◌, ℕ, ◌&&◌, not, Option, Some, None, List, [], ◌∷◌, map, option_map, length, if◌then◌else◌}
+use Rattle.std.specs.List.{range_with_len}
 use Rattle.py_base.specs.declared.ids.NodeId.{NodeId}
 use Rattle.py_base.specs.declared.node.NodeKind.{NodeKind}
 use Rattle.py_base.specs.Tree.{Arena, tree_of}
 use Rattle.py_tokens.specs.declared.kinds.TokenFault.{TokenFault}
 use Rattle.py_blocks.specs.declared.facts.LineFacts.{LineFacts}
 use Rattle.py_blocks.specs.declared.fault.BlockLine.{BlockLine}
-use Rattle.py_blocks.specs.declared.fault.FaultyLine.{FaultyLine}
+use Rattle.py_blocks.specs.declared.fault.StandingLine.{StandingLine}
 use Rattle.py_blocks.specs.declared.fault.LineFaultKind.{LineFaultKind}
 use Rattle.py_blocks.specs.declared.fault.LineFaultKind.TheVariants as faults
+use Rattle.py_blocks.specs.declared.line.Line.{Line}
 use Rattle.py_blocks.specs.Facts.{Row, facts_of}
-use Rattle.py_blocks.specs.Blocks.{line_at, breaks_structure}
+use Rattle.py_blocks.specs.Enclosing.{line_at}
 use Rattle.py_blocks.specs.Names.{breaks_names}
+use Rattle.py_blocks.specs.Lines.{is_error}
+use Rattle.py_blocks.specs.Nesting.{line_kind}
+use Rattle.py_blocks.specs.Settling.{Settles}
 
--- the line breaks a rule
-abbrev pub breaks : List LineFacts → ℕ → Bool
-breaks lines i = breaks_structure lines i || not (line_at lines i).fits || breaks_names lines i
+-- ---- the lines of a text, as the rules see them
 
-abbrev pub fault_of_kind : Option NodeKind → Bool → Option LineFaultKind
-fault_of_kind None broken = Some faults.NotValid
-fault_of_kind (Some k) broken = if broken then Some faults.Block else None
+-- the line of what is seen at a place; the rules on names go by the lines as they are written
+abbrev pub seen : List LineFacts → ℕ → LineFacts → Line
+seen lines i f = record {
+  column = f.column;
+  kind = line_kind f.kind;
+  opens = f.opens;
+  bare = f.bare;
+  returns = f.returns;
+  jumps = f.jumps;
+  fits = f.fits && not (breaks_names lines i);
+  place = i;
+}
 
-abbrev pub fault_with : Option TokenFault → Option NodeKind → Bool → Option LineFaultKind
-fault_with (Some fault) kind broken = Some (faults.Token fault)
-fault_with None kind broken = fault_of_kind kind broken
+abbrev pub seen_at : List LineFacts → ℕ → Line
+seen_at lines i = seen lines i (line_at lines i)
 
--- the fault of a line: its token fault, else that it has no tree, else that it breaks a rule
-abbrev pub fault_in : List LineFacts → ℕ → Option LineFaultKind
-fault_in lines i = fault_with (line_at lines i).fault (line_at lines i).kind (breaks lines i)
+abbrev pub lines_seen : List LineFacts → List Line
+lines_seen lines = map (seen_at lines) (range_with_len 0 (length lines))
 
--- a faulty line before which no line is faulty
-pub record IsFirstFault (lines : List LineFacts) (found : FaultyLine) : Type 0 where
-  pub within : found.line < length lines
-  pub here : fault_in lines found.line ≡ Some found.kind
-  pub first : (i : ℕ) → i < found.line → fault_in lines i ≡ None
+-- ---- faults
 
-abbrev pub IsFirstIn : List LineFacts → Option FaultyLine → Type 0
-IsFirstIn lines (Some found) = IsFirstFault lines found
-IsFirstIn lines None = (i : ℕ) → i < length lines → fault_in lines i ≡ None
+abbrev pub fault_of_kind : Option NodeKind → LineFaultKind
+fault_of_kind None = faults.NotValid
+fault_of_kind (Some k) = faults.Block
 
--- THE ANSWER: the first faulty line, and none where no line is faulty
-abbrev pub IsFaultOf : List Row → Option FaultyLine → Type 0
-IsFaultOf rows found = IsFirstIn (map facts_of rows) found
+-- the fault of a faulty line: its token fault, else that it has no tree, else that it breaks a rule
+abbrev pub fault_with : Option TokenFault → Option NodeKind → LineFaultKind
+fault_with (Some fault) kind = faults.Token fault
+fault_with None kind = fault_of_kind kind
+
+abbrev pub fault_at : List LineFacts → ℕ → LineFaultKind
+fault_at lines i = fault_with (line_at lines i).fault (line_at lines i).kind
+
+-- a line of the nesting, and with its fault an error line
+abbrev pub standing : List LineFacts → Line → StandingLine
+standing lines x = record { column = x.column; line = x.place; fault = if is_error x.kind then Some (fault_at lines x.place) else None }
+
+-- THE NESTING OF A TEXT'S LINES: those that are left where each faulty line has been replaced
+pub record IsNesting (rows : List Row) (nesting : List StandingLine) : Type 0 where
+  pub end : List Line
+  pub settles : Settles (lines_seen (map facts_of rows)) end
+  pub is : nesting ≡ map (standing (map facts_of rows)) end
 
 -- ---- the rows of lines with their trees in an arena
 

@@ -6,17 +6,16 @@ use Rattle.std.specs.Cmp.Lexicographic.{slice_cmp}
 use Rattle.std.specs.declared.cmp.Ordering.{Ordering}
 use Rattle.std.specs.Ordering.{nat_cmp, ordering_then}
 use Rattle.py_blocks.specs.declared.facts.LineFacts.{LineFacts}
-use Rattle.py_blocks.specs.declared.links.Link.{Link}
 use Rattle.py_blocks.specs.declared.name_sets.ScopeName.{ScopeName}
 use Rattle.py_blocks.specs.declared.name_sets.Naming.{Naming}
 use Rattle.py_blocks.specs.declared.name_sets.Naming.TheVariants as namings
 use Rattle.py_blocks.specs.declared.name_sets.NameSets.{NameSets}
 use Rattle.py_blocks.specs.declared.sort.Sort.TheVariants as sorts
 use Rattle.py_blocks.specs.Facts.{among}
-use Rattle.py_blocks.specs.Blocks.{line_at, is_a}
+use Rattle.py_blocks.specs.Enclosing.{line_at, is_a}
 use Rattle.py_blocks.specs.Names.{binds_at, declares_at, binds_in, declares_in}
 use Rattle.py_blocks.specs.Search.{some_below}
-use Rattle.py_blocks.specs.Kept.{link_in, is_behind}
+use Rattle.py_blocks.specs.Innermost.{scope_in, is_behind}
 
 -- the line i gives the name n to the def or class d: as a parameter of it, bound in its header's line, bound in a line of its body, or
 -- declared global or nonlocal in its body
@@ -46,15 +45,15 @@ pub record AreNameSets (lines : List LineFacts) (sets : NameSets) : Type 0 where
 -- ---- what the code reads (for contracts of inner functions)
 
 -- the def or class in whose body the statements of the line i stand
-abbrev pub body_in : List LineFacts → List Link → ℕ → Option ℕ
-body_in lines links i = if is_a lines i sorts.Scope then Some i else (link_in links i).scope
+abbrev pub body_in : List LineFacts → List (Option ℕ) → ℕ → Option ℕ
+body_in lines scopes i = if is_a lines i sorts.Scope then Some i else scope_in scopes i
 
 -- the def or class that the line i gives names to
-abbrev pub holder_in : List LineFacts → List Link → Naming → ℕ → Option ℕ
-holder_in lines links namings.Parameter i = Some i
-holder_in lines links namings.Suite i = Some i
-holder_in lines links namings.Bound i = (link_in links i).scope
-holder_in lines links namings.Declared i = body_in lines links i
+abbrev pub holder_in : List LineFacts → List (Option ℕ) → Naming → ℕ → Option ℕ
+holder_in lines scopes namings.Parameter i = Some i
+holder_in lines scopes namings.Suite i = Some i
+holder_in lines scopes namings.Bound i = scope_in scopes i
+holder_in lines scopes namings.Declared i = body_in lines scopes i
 
 abbrev pub names_of : LineFacts → Naming → List (List ℕ)
 names_of line namings.Parameter = line.parameters

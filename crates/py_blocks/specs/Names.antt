@@ -5,7 +5,7 @@ use Rattle.std.specs.List.{list_any}
 use Rattle.py_blocks.specs.declared.facts.LineFacts.{LineFacts}
 use Rattle.py_blocks.specs.declared.sort.Sort.TheVariants as sorts
 use Rattle.py_blocks.specs.Facts.{among}
-use Rattle.py_blocks.specs.Blocks.{line_at, is_a, encloses_as, lies_between, is_innermost}
+use Rattle.py_blocks.specs.Enclosing.{line_at, is_a, encloses_as, lies_between, is_innermost}
 use Rattle.py_blocks.specs.Search.{some_below}
 
 -- the def or class in whose body the statements of the line i stand: its own header, or the innermost around

@@ -1,6 +1,6 @@
-//! Lines as they come, and what is told of the first faulty one.
+//! Lines as they come, and as they stand in the nesting.
 ghost use Rattle.std.specs.Prelude.{◌≡◌};
-ghost use Rattle.py_blocks.specs.Faults.{fault_with};
+ghost use Rattle.py_blocks.specs.Faults.{fault_with, fault_of_kind};
 
 use py_base::{NodeId, NodeKind};
 use py_tokens::TokenFault;
@@ -28,24 +28,33 @@ pub enum LineFaultKind {
     Block,
 }
 
-/// A faulty line, by its place among the lines, counted from 0.
+/// A line of the nesting: one that stands as it is written, or an error line.
 #[derive(Clone, Copy, Debug, PartialEq, Eq)]
-pub struct FaultyLine {
+pub struct StandingLine {
+    /// The width of the blanks before it, or of those before the block that an error line stands in.
+    pub column: u32,
+    /// Its place among the lines of the text, counted from 0.
     pub line: usize,
-    pub kind: LineFaultKind,
+    /// What is wrong with the faulty line that an error line stands for. `None` where the line isn't
+    /// faulty.
+    pub fault: Option<LineFaultKind>,
 }
 
-/// What is told of a line with this token fault, this kind of tree, and this answer of the rules.
-pub fn fault_with(
-    fault: Option<TokenFault>,
-    kind: Option<NodeKind>,
-    broken: bool,
-) -> Option<LineFaultKind>
-    ensures { result ≡ fault_with fault kind broken }
+fn fault_of_kind(kind: Option<NodeKind>) -> LineFaultKind
+    ensures { result ≡ fault_of_kind kind }
 {
-    match (fault, kind) {
-        (Some(fault), _) => Some(LineFaultKind::Token(fault)),
-        (None, None) => Some(LineFaultKind::NotValid),
-        (None, Some(_)) => broken.then_some(LineFaultKind::Block),
+    match kind {
+        Some(_) => LineFaultKind::Block,
+        None => LineFaultKind::NotValid,
+    }
+}
+
+/// What is told of a faulty line with this token fault and this kind of tree.
+pub fn fault_with(fault: Option<TokenFault>, kind: Option<NodeKind>) -> LineFaultKind
+    ensures { result ≡ fault_with fault kind }
+{
+    match fault {
+        Some(fault) => LineFaultKind::Token(fault),
+        None => fault_of_kind(kind),
     }
 }

@@ -2,14 +2,13 @@
 ghost use Rattle.std.specs.Prelude.{◌≡◌, ◌==◌, ◌&&◌, ◌||◌, ℕ, List, IfOk, OnOk};
 ghost use Rattle.std.specs.BTreeSet.{BTreeSet};
 ghost use Rattle.py_blocks.specs.Facts.{among};
-ghost use Rattle.py_blocks.specs.Links.{links_of};
-ghost use Rattle.py_blocks.specs.Kept.{has_one};
+ghost use Rattle.py_blocks.specs.Innermost.{scopes_of, has_one};
 ghost use Rattle.py_blocks.specs.NameSets.{holds, IsSetOf, AreNameSets, body_in, holder_in, names_of};
 ghost use Rattle.std.specs.Str.{bytes_eq};
 
 use crate::facts::LineFacts;
+use crate::innermost::scope_in;
 use crate::lines::is_a;
-use crate::links::{Link, scope_in};
 use crate::sort::Sort;
 use py_base::{NoMemory, Text};
 use std::alloc::Global;
@@ -49,24 +48,29 @@ pub struct NameSets<'a> {
 }
 
 /// The def or class in whose body the statements of a line stand.
-pub fn body_in(lines: &[LineFacts], links: &[Link], at: usize) -> Option<usize>
-    ensures { result ≡ body_in lines.now links.now at }
+pub fn body_in(lines: &[LineFacts], scopes: &[Option<usize>], at: usize) -> Option<usize>
+    ensures { result ≡ body_in lines.now scopes.now at }
 {
     if is_a(lines, at, Sort::Scope) {
         Some(at)
     } else {
-        scope_in(links, at)
+        scope_in(scopes, at)
     }
 }
 
 // The def or class that a line gives names to.
-fn holder_in(lines: &[LineFacts], links: &[Link], naming: Naming, at: usize) -> Option<usize>
-    ensures { result ≡ holder_in lines.now links.now naming at }
+fn holder_in(
+    lines: &[LineFacts],
+    scopes: &[Option<usize>],
+    naming: Naming,
+    at: usize,
+) -> Option<usize>
+    ensures { result ≡ holder_in lines.now scopes.now naming at }
 {
     match naming {
         Naming::Parameter | Naming::Suite => Some(at),
-        Naming::Bound => scope_in(links, at),
-        Naming::Declared => body_in(lines, links, at),
+        Naming::Bound => scope_in(scopes, at),
+        Naming::Declared => body_in(lines, scopes, at),
     }
 }
 
@@ -115,15 +119,15 @@ fn add_held<'a>(
 fn set_of<'a>(
     alloc: Global,
     lines: &'a [LineFacts],
-    links: &[Link],
+    scopes: &[Option<usize>],
     naming: Naming,
 ) -> Result<NameSet<'a>, NoMemory>
-    requires { links.now ≡ links_of lines.now }
+    requires { scopes.now ≡ scopes_of lines.now }
     ensures { IfOk result (IsSetOf lines.now naming) }
 {
     let mut set = BTreeSet::new(alloc);
     for at in 0..lines.len() {
-        let holder = holder_in(lines, links, naming, at);
+        let holder = holder_in(lines, scopes, naming, at);
         add_held(&mut set, holder, names_of(&lines[at], naming))?;
     }
     Ok(set)
@@ -133,15 +137,15 @@ fn set_of<'a>(
 pub fn name_sets<'a>(
     alloc: Global,
     lines: &'a [LineFacts],
-    links: &[Link],
+    scopes: &[Option<usize>],
 ) -> Result<NameSets<'a>, NoMemory>
-    requires { links.now ≡ links_of lines.now }
+    requires { scopes.now ≡ scopes_of lines.now }
     ensures { IfOk result (AreNameSets lines.now) }
 {
-    let parameters = set_of(alloc, lines, links, Naming::Parameter)?;
-    let suites = set_of(alloc, lines, links, Naming::Suite)?;
-    let bound = set_of(alloc, lines, links, Naming::Bound)?;
-    let declared = set_of(alloc, lines, links, Naming::Declared)?;
+    let parameters = set_of(alloc, lines, scopes, Naming::Parameter)?;
+    let suites = set_of(alloc, lines, scopes, Naming::Suite)?;
+    let bound = set_of(alloc, lines, scopes, Naming::Bound)?;
+    let declared = set_of(alloc, lines, scopes, Naming::Declared)?;
     Ok(NameSets {
         parameters,
         suites,

@@ -1,32 +1,13 @@
 //! The open blocks at a line, as a stack of the lines that opened them.
 ghost use Rattle.std.specs.Prelude.{◌≡◌, ◌<◌, ◌+◌, nat_lt, length, IfOk};
 ghost use Rattle.std.specs.List.{filter};
-ghost use Rattle.py_blocks.specs.Blocks.{column_at, is_a};
-ghost use Rattle.py_blocks.specs.Shortcuts.{open_at, opens_one, count_open};
-ghost use Rattle.py_blocks.specs.Kept.{is_behind, is_loop_for, opens_loop_for};
+ghost use Rattle.py_blocks.specs.Enclosing.{column_at};
+ghost use Rattle.py_blocks.specs.Innermost.{open_at, is_behind};
 
 use crate::facts::LineFacts;
-use crate::lines::{column_at, is_a};
-use crate::sort::Sort;
+use crate::lines::column_at;
 use py_base::NoMemory;
 use std::alloc::Global;
-
-/// Whether some open block is of a sort.
-pub fn opens_one(lines: &[LineFacts], sort: Sort, blocks: &[usize]) -> bool
-    ensures { result ≡ opens_one lines.now sort blocks.now }
-{
-    blocks.iter().any(|outer| is_a(lines, *outer, sort))
-}
-
-/// How many open blocks are of a sort.
-pub fn count_open(lines: &[LineFacts], sort: Sort, blocks: &[usize]) -> usize
-    ensures { result ≡ count_open lines.now sort blocks.now }
-{
-    blocks
-        .iter()
-        .filter(|outer| is_a(lines, **outer, sort))
-        .count()
-}
 
 /// Whether there is a def or class, and it stands behind a line.
 pub fn is_behind(scope: Option<usize>, outer: usize) -> bool
@@ -38,28 +19,14 @@ pub fn is_behind(scope: Option<usize>, outer: usize) -> bool
     }
 }
 
-fn is_loop_for(lines: &[LineFacts], scope: Option<usize>, outer: usize) -> bool
-    ensures { result ≡ is_loop_for lines.now scope outer }
-{
-    is_a(lines, outer, Sort::Loop) && !is_behind(scope, outer)
-}
-
-/// Whether a loop is open, and in it no def or class. `scope` is the innermost def or class.
-pub fn opens_loop(lines: &[LineFacts], scope: Option<usize>, blocks: &[usize]) -> bool
-    ensures { result ≡ opens_loop_for lines.now scope blocks.now }
-{
-    blocks.iter().any(|outer| is_loop_for(lines, scope, *outer))
-}
-
 fn is_left_of(lines: &[LineFacts], outer: usize, column: u32) -> bool
     ensures { result ≡ nat_lt (column_at lines.now outer) column }
 {
     column_at(lines, outer) < column
 }
 
-/// Those of the open blocks that a line of this column stands in. `NoMemory` where they could not be
-/// stored.
-pub fn still_open(
+// Those of the open blocks that a line of this column stands in.
+fn still_open(
     alloc: Global,
     lines: &[LineFacts],
     blocks: &[usize],

@@ -2,17 +2,16 @@
 ghost use Rattle.std.specs.Prelude.{◌≡◌, ◌<◌, ◌&&◌, ◌||◌, not, length};
 ghost use Rattle.std.specs.List.{list_any};
 ghost use Rattle.py_blocks.specs.Facts.{among};
-ghost use Rattle.py_blocks.specs.Blocks.{line_at, is_a};
-ghost use Rattle.py_blocks.specs.Links.{links_of};
-ghost use Rattle.py_blocks.specs.Shortcuts.{open_at};
+ghost use Rattle.py_blocks.specs.Enclosing.{line_at, is_a};
+ghost use Rattle.py_blocks.specs.Innermost.{scopes_of, open_at};
 ghost use Rattle.py_blocks.specs.Names.{binds_at, binds_in, declares_in, is_owned_around, is_nonlocal_astray, is_parameter_around, declares_parameter, breaks_names};
 ghost use Rattle.py_blocks.specs.Search.{some_below};
 ghost use Rattle.py_blocks.specs.NameSets.{AreNameSets, lies_outside, owns_open};
 ghost use Rattle.py_blocks.specs.declared.sort.Sort.TheVariants as sorts;
 
 use crate::facts::LineFacts;
+use crate::innermost::scope_in;
 use crate::lines::is_a;
-use crate::links::{Link, scope_in};
 use crate::name_sets::{NameSets, body_in, has_name};
 use crate::open_blocks::is_behind;
 use crate::sort::Sort;
@@ -120,36 +119,36 @@ fn is_owned_by_one<'a>(
 fn is_owned_around<'a>(
     lines: &'a [LineFacts],
     names: &NameSets<'a>,
-    links: &[Link],
+    scopes: &[Option<usize>],
     blocks: &[usize],
     at: usize,
     name: &'a str,
 ) -> bool
     requires within { at < length lines.now }
-    requires links { links.now ≡ links_of lines.now }
+    requires scopes { scopes.now ≡ scopes_of lines.now }
     requires names { AreNameSets lines.now names.now }
     requires blocks { blocks.now ≡ open_at lines.now at }
     ensures { result ≡ is_owned_around lines.now at name.now }
 {
-    is_owned_by_one(lines, names, scope_in(links, at), blocks, at, name)
+    is_owned_by_one(lines, names, scope_in(scopes, at), blocks, at, name)
 }
 
 fn is_any_unowned<'a>(
     lines: &'a [LineFacts],
     names: &NameSets<'a>,
-    links: &[Link],
+    scopes: &[Option<usize>],
     blocks: &[usize],
     at: usize,
     nonlocals: &'a [Text],
 ) -> bool
     requires within { at < length lines.now }
-    requires links { links.now ≡ links_of lines.now }
+    requires scopes { scopes.now ≡ scopes_of lines.now }
     requires names { AreNameSets lines.now names.now }
     requires blocks { blocks.now ≡ open_at lines.now at }
     ensures { result ≡ list_any (λ n. not (is_owned_around lines.now at n)) nonlocals.now }
 {
     for name in nonlocals {
-        if !is_owned_around(lines, names, links, blocks, at, name.as_str()) {
+        if !is_owned_around(lines, names, scopes, blocks, at, name.as_str()) {
             return true;
         }
     }
@@ -159,35 +158,35 @@ fn is_any_unowned<'a>(
 fn is_nonlocal_astray<'a>(
     lines: &'a [LineFacts],
     names: &NameSets<'a>,
-    links: &[Link],
+    scopes: &[Option<usize>],
     blocks: &[usize],
     at: usize,
 ) -> bool
     requires within { at < length lines.now }
-    requires links { links.now ≡ links_of lines.now }
+    requires scopes { scopes.now ≡ scopes_of lines.now }
     requires names { AreNameSets lines.now names.now }
     requires blocks { blocks.now ≡ open_at lines.now at }
     ensures { result ≡ is_nonlocal_astray lines.now at }
 {
     match lines.get(at) {
-        Some(line) => is_any_unowned(lines, names, links, blocks, at, line.nonlocals.as_slice()),
+        Some(line) => is_any_unowned(lines, names, scopes, blocks, at, line.nonlocals.as_slice()),
         None => false,
     }
 }
 
 fn is_parameter_around<'a>(
     lines: &'a [LineFacts],
-    links: &[Link],
+    scopes: &[Option<usize>],
     names: &NameSets<'a>,
     at: usize,
     name: &'a Text,
 ) -> bool
     requires within { at < length lines.now }
-    requires links { links.now ≡ links_of lines.now }
+    requires scopes { scopes.now ≡ scopes_of lines.now }
     requires names { AreNameSets lines.now names.now }
     ensures { result ≡ is_parameter_around lines.now at name.now }
 {
-    match body_in(lines, links, at) {
+    match body_in(lines, scopes, at) {
         Some(scope) => is_own_parameter(lines, names, name.as_str(), scope),
         None => false,
     }
@@ -195,18 +194,18 @@ fn is_parameter_around<'a>(
 
 fn is_any_parameter<'a>(
     lines: &'a [LineFacts],
-    links: &[Link],
+    scopes: &[Option<usize>],
     names: &NameSets<'a>,
     at: usize,
     declared: &'a [Text],
 ) -> bool
     requires within { at < length lines.now }
-    requires links { links.now ≡ links_of lines.now }
+    requires scopes { scopes.now ≡ scopes_of lines.now }
     requires names { AreNameSets lines.now names.now }
     ensures { result ≡ list_any (λ n. is_parameter_around lines.now at n) declared.now }
 {
     for name in declared {
-        if is_parameter_around(lines, links, names, at, name) {
+        if is_parameter_around(lines, scopes, names, at, name) {
             return true;
         }
     }
@@ -215,17 +214,17 @@ fn is_any_parameter<'a>(
 
 fn declares_parameter<'a>(
     lines: &'a [LineFacts],
-    links: &[Link],
+    scopes: &[Option<usize>],
     names: &NameSets<'a>,
     at: usize,
 ) -> bool
     requires within { at < length lines.now }
-    requires links { links.now ≡ links_of lines.now }
+    requires scopes { scopes.now ≡ scopes_of lines.now }
     requires names { AreNameSets lines.now names.now }
     ensures { result ≡ declares_parameter lines.now at }
 {
     match lines.get(at) {
-        Some(line) => is_any_parameter(lines, links, names, at, line.declared.as_slice()),
+        Some(line) => is_any_parameter(lines, scopes, names, at, line.declared.as_slice()),
         None => false,
     }
 }
@@ -233,17 +232,17 @@ fn declares_parameter<'a>(
 /// Whether a line breaks a rule on global and nonlocal names. `blocks` are the open blocks at the line.
 pub fn breaks_names<'a>(
     lines: &'a [LineFacts],
-    links: &[Link],
+    scopes: &[Option<usize>],
     names: &NameSets<'a>,
     blocks: &[usize],
     at: usize,
 ) -> bool
     requires within { at < length lines.now }
-    requires links { links.now ≡ links_of lines.now }
+    requires scopes { scopes.now ≡ scopes_of lines.now }
     requires names { AreNameSets lines.now names.now }
     requires blocks { blocks.now ≡ open_at lines.now at }
     ensures { result ≡ breaks_names lines.now at }
 {
-    is_nonlocal_astray(lines, names, links, blocks, at)
-        || declares_parameter(lines, links, names, at)
+    is_nonlocal_astray(lines, names, scopes, blocks, at)
+        || declares_parameter(lines, scopes, names, at)
 }

@@ -25,6 +25,8 @@ pub enum Stage {
     Loop,
     /// `try`.
     Try,
+    /// `try`, and an error line behind it.
+    PassedTry,
     /// `except`.
     Handler,
     /// `except*`.
@@ -48,6 +50,8 @@ pub enum Role {
     Clause(Clause),
     /// `async` and what isn't the header of a def, a `for` or a `with`.
     Nowhere,
+    /// An error line.
+    ErrorLine,
 }
 
 /// What the lines of a statement have made of it so far.
@@ -84,6 +88,7 @@ pub fn plain_role(kind: NodeKind) -> Role
         NodeKind::ExceptStar => Role::Clause(Clause::ExceptStar),
         NodeKind::Finally => Role::Clause(Clause::Finally),
         NodeKind::Async => Role::Nowhere,
+        NodeKind::Fault => Role::ErrorLine,
         _ => Role::Alone,
     }
 }
@@ -112,12 +117,28 @@ fn clause_behind(stage: Stage, clause: Clause) -> Option<Stage>
     match (stage, clause) {
         (Stage::Branch, Clause::Elif) => Some(Stage::Branch),
         (Stage::Branch | Stage::Loop, Clause::Else) => Some(Stage::Last),
-        (Stage::Try | Stage::Handler, Clause::Except) => Some(Stage::Handler),
-        (Stage::Try | Stage::StarHandler, Clause::ExceptStar) => Some(Stage::StarHandler),
-        (Stage::Handler | Stage::StarHandler, Clause::Else) => Some(Stage::ElseOfTry),
-        (Stage::Try | Stage::Handler | Stage::StarHandler | Stage::ElseOfTry, Clause::Finally) =>
-            Some(Stage::Last),
+        (Stage::Try | Stage::PassedTry | Stage::Handler, Clause::Except) => Some(Stage::Handler),
+        (Stage::Try | Stage::PassedTry | Stage::StarHandler, Clause::ExceptStar) => {
+            Some(Stage::StarHandler)
+        }
+        (Stage::PassedTry | Stage::Handler | Stage::StarHandler, Clause::Else) => Some(
+            Stage::ElseOfTry,
+        ),
+        (
+            Stage::Try | Stage::PassedTry | Stage::Handler | Stage::StarHandler | Stage::ElseOfTry,
+            Clause::Finally,
+        ) => Some(Stage::Last),
         _ => None,
+    }
+}
+
+fn passed_behind(stage: Stage) -> Option<Stage>
+    ensures { result ≡ Roles.passed_behind stage }
+{
+    match stage {
+        Stage::Last => None,
+        Stage::Try => Some(Stage::PassedTry),
+        other => Some(other),
     }
 }
 
@@ -136,6 +157,7 @@ pub fn begins(role: Role, of_match: bool) -> Form
         (Role::Header(kind, stage), false) => Form::Compound(kind, stage),
         (Role::Case, true) => Form::Compound(NodeKind::CaseStatement, Stage::Last),
         (Role::Decorator, false) => Form::Decorated,
+        (Role::ErrorLine, _) => Form::Plain,
         _ => Form::Stray,
     }
 }
@@ -163,6 +185,7 @@ pub fn goes_on(form: Form, role: Role) -> Option<Form>
         (Form::Compound(kind, stage), Role::Clause(clause)) => {
             at_stage(kind, clause_behind(stage, clause))
         }
+        (Form::Compound(kind, stage), Role::ErrorLine) => at_stage(kind, passed_behind(stage)),
         _ => None,
     }
 }

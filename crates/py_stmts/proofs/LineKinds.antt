@@ -2,15 +2,15 @@
 use Rattle.std.proofs.Common.{◌≡◌, Bool, true, false, not, ◌&&◌, List, refl, ap, sym, ◌∙◌}
 use Rattle.std.proofs.lemmas.Bool.{and_parts}
 use Rattle.py_base.specs.declared.node.NodeKind.{NodeKind}
-use Rattle.py_base.specs.Tree.{SyntaxTree, kind_of}
+use Rattle.py_base.specs.declared.node.NodeKind.TheVariants as kinds
+use Rattle.py_base.specs.Tree.{SyntaxTree, SyntaxTrees, node, kind_of}
 use Rattle.py_tokens.specs.declared.lines.Token.{Token}
 use Rattle.py_grammar.specs.declared.words.Form.{Form}
 use Rattle.py_grammar.specs.declared.words.Terminal.TheVariants as terminals
 use Rattle.py_grammar.specs.Meaning.{has_word, kind_for, tree_of_reading}
 use Rattle.py_grammar.specs.Reading.{Reading, opened, joined}
-use Rattle.py_grammar.specs.Levelled.{IsTreeOf}
 use Rattle.py_grammar.proofs.Finite.{every, all_forms, each_form}
-use Rattle.py_modules.specs.Modules.{is_block, is_compound, IsLine}
+use Rattle.py_modules.specs.Modules.{is_block, is_compound, is_over_lines, IsLine}
 use Rattle.py_stmts.specs.Line.{IsLineTree, by_keyword, plainly}
 
 abbrev pub stands_alone : NodeKind → Bool
@@ -40,8 +40,12 @@ negated : (b : Bool) → not b ≡ true → b ≡ false
 negated false h = refl
 negated true h = cc
 
+not-over : (k : NodeKind) (ts : SyntaxTrees) → is_compound k ≡ false → is_over_lines k ts ≡ false
+not-over kinds.Fault ts h = cc
+not-over k ts h = h
+
 line_of : (t : SyntaxTree) → stands_alone (kind_of t) ≡ true → IsLine t
-line_of t h = let (a, b) = and_parts (not (is_block (kind_of t))) (not (is_compound (kind_of t))) h in (negated (is_block (kind_of t)) a, negated (is_compound (kind_of t)) b)
+line_of (node k at said ts) h = let (a, b) = and_parts (not (is_block k)) (not (is_compound k)) h in (negated (is_block k) a, not-over k ts (negated (is_compound k) b))
 
 pub IsLine-of : (tokens : List Token) (t : SyntaxTree) → IsLineTree tokens t → IsLine t
 IsLine-of tokens t (by_keyword h) = line_of t (ap (λ (u : SyntaxTree). stands_alone (kind_of u)) (sym h.tree) ∙ of_reading h.reading)

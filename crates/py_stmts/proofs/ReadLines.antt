@@ -1,24 +1,25 @@
 -- Lines that are read one after the other: what is known of those before stays, and each tree comes once.
-use Rattle.std.proofs.Common.{◌≡◌, ℕ, zero, suc, ◌+◌, ◌==◌, ◌<◌, ◌≤◌, nat_lt, Bool, true, false, ◌⊎◌, inl, inr, Option, Some, None, List, [], ◌∷◌, ◌++◌, length, map, refl, sym, ◌∙◌, ap, subst, arith, if◌then◌else◌, append_assoc, append-nil, length-append}
+use Rattle.std.proofs.Common.{◌≡◌, ℕ, suc, ◌+◌, ◌==◌, ◌<◌, ◌≤◌, nat_lt, Bool, true, false, Option, Some, None, List, [], ◌∷◌, ◌++◌, length, map, refl, sym, ◌∙◌, ap, subst, arith, if◌then◌else◌, append_assoc, append-nil, length-append, drop, get_or}
 use Rattle.std.specs.Option.{option_map, is_some}
-use Rattle.std.specs.List.{filter_map}
 use Rattle.std.specs.Prelude.{IfSome, IfNone, IsSomeAnd}
 use Rattle.std.proofs.lemmas.Bool.{ltb-true, ltb-false, eqb-true, eqb-false}
-use Rattle.std.proofs.lemmas.List.{map-append}
+use Rattle.std.proofs.lemmas.List.{map-append, drop_more}
 use Rattle.std.proofs.lemmas.List.Elements.{filter_map-append}
 use Rattle.py_base.specs.declared.ids.NodeId.{NodeId}
 use Rattle.py_base.specs.declared.node.Node.{Node}
-use Rattle.py_base.specs.Tree.{Arena, SyntaxTree, tree_of, AreOlder, AreLinked, IsLinked, Grows}
-use Rattle.py_base.specs.TreeLaws.{tree_of-later, Grows-nodes}
+use Rattle.py_base.specs.declared.node.Word.{Word}
+use Rattle.py_base.specs.declared.node.Word.TheVariants as words
+use Rattle.py_base.specs.Tree.{Arena, SyntaxTree, node, nothing, no_parts, said, parts_at, trees, tree_of, AreOlder, AreLinked, IsLinked, Grows}
+use Rattle.py_base.specs.TreeLaws.{tree_of-later, tree_of-new, Grows-nodes, Grows-refl, Grows-add}
 use Rattle.py_base.specs.OneTree.{times, all_parts, AddsOneTree}
-use Rattle.py_base.specs.OneTreeLaws.{times-append}
+use Rattle.py_base.specs.OneTreeLaws.{times-append, all_parts-append}
 use Rattle.py_tokens.specs.declared.lines.LogicalLine.{LogicalLine}
 use Rattle.py_blocks.specs.declared.fault.BlockLine.{BlockLine}
 use Rattle.py_blocks.specs.Facts.{Row}
 use Rattle.py_blocks.specs.Faults.{row_of, rows_of, IsNodeOf, AreNodesOf}
 use Rattle.py_modules.specs.Held.{HaveAll}
 use Rattle.py_stmts.specs.Line.{IsLineTree}
-use Rattle.py_stmts.specs.Module.{IsLineOf, IsRowOf, AreRowsOf}
+use Rattle.py_stmts.specs.Module.{AreEach, IsLineOf}
 use Rattle.py_stmts.specs.Rows.{module_line, lines_with_trees, roots}
 
 -- ---- lines as the arena grows
@@ -122,14 +123,14 @@ held-some old new held id h older adds all n lt = each (place (length old.nodes)
 -- ---- the rows so far
 
 -- what is known once some lines are read, of all that there are
-pub record AreRead (a : Arena) (all rest : List LogicalLine) (rows : List BlockLine) : Type 0 where
+pub record AreRead {X : Type 0} (R : X → Row → Type 0) (a : Arena) (all rest : List X) (rows : List BlockLine) : Type 0 where
   pub linked : IsLinked a
   pub within : AreNodesOf (length a.nodes) rows
-  pub lines : (more : List Row) → AreRowsOf rest more → AreRowsOf all (rows_of a rows ++ more)
+  pub lines : (more : List Row) → AreEach R rest more → AreEach R all (rows_of a rows ++ more)
   pub once : HaveAll a (roots rows)
 
-pub AreRead-start : (a : Arena) (all : List LogicalLine) → IsLinked a → a.nodes ≡ [] → AreRead a all all []
-AreRead-start a all h e = record {
+pub AreRead-start : {X : Type 0} (R : X → Row → Type 0) (a : Arena) (all : List X) → IsLinked a → a.nodes ≡ [] → AreRead R a all all []
+AreRead-start R a all h e = record {
   linked = h;
   within = tt;
   lines = λ more rows. rows;
@@ -148,8 +149,8 @@ roots-older n (r ∷ rows) (a, b) = by_tree r.tree a refl (roots-older n rows b)
     by_tree (Some id) p e others = rw e (p, others)
 
 -- one line more
-pub AreRead-more : (old new : Arena) (all rest : List LogicalLine) (line : LogicalLine) (rows : List BlockLine) (r : BlockLine) → AreRead old all (line ∷ rest) rows → Grows old new → IsLinked new → IsNodeOf (length new.nodes) r.tree → IsRowOf line (row_of new r) → IfSome r.tree (AddsOneTree old new) → IfNone r.tree (new ≡ old) → AreRead new all rest (rows ++ r ∷ [])
-AreRead-more old new all rest line rows r known g h inside row some none = record {
+pub AreRead-more : {X : Type 0} (R : X → Row → Type 0) (old new : Arena) (all rest : List X) (line : X) (rows : List BlockLine) (r : BlockLine) → AreRead R old all (line ∷ rest) rows → Grows old new → IsLinked new → IsNodeOf (length new.nodes) r.tree → R line (row_of new r) → IfSome r.tree (AddsOneTree old new) → IfNone r.tree (new ≡ old) → AreRead R new all rest (rows ++ r ∷ [])
+AreRead-more R old new all rest line rows r known g h inside row some none = record {
   linked = h;
   within = AreNodesOf-add (length new.nodes) rows r (AreNodesOf-later (length old.nodes) (length new.nodes) rows (Grows-nodes old new g) known.within) inside;
   lines = λ more behind. rw (map-append (row_of new) rows (r ∷ []), rows-later old new rows known.linked g known.within, append_assoc (rows_of old rows) (row_of new r ∷ []) more) (known.lines (row_of new r ∷ more) (row, behind));
@@ -160,8 +161,13 @@ AreRead-more old new all rest line rows r known g h inside row some none = recor
     by_tree None s e same = rw (same, append-nil (roots rows), e) known.once
     by_tree (Some id) s e same = rw same (held-some old new (roots rows) id h (roots-older (length old.nodes) rows known.within) s known.once)
 
-pub AreRead-all : (a : Arena) (all rest : List LogicalLine) (rows : List BlockLine) → rest ≡ [] → AreRead a all rest rows → AreRowsOf all (rows_of a rows)
-AreRead-all a all rest rows e known = rw (← append-nil (rows_of a rows)) (known.lines [] (rw e tt))
+-- the same for the item at a place
+pub AreRead-next : {X : Type 0} (R : X → Row → Type 0) (old new : Arena) (all : List X) (i : ℕ) (d : X) (rows : List BlockLine) (r : BlockLine) → i < length all → AreRead R old all (drop i all) rows → Grows old new → IsLinked new → IsNodeOf (length new.nodes) r.tree → R (get_or all i d) (row_of new r) → IfSome r.tree (AddsOneTree old new) → IfNone r.tree (new ≡ old) → AreRead R new all (drop (i + 1) all) (rows ++ r ∷ [])
+AreRead-next R old new all i d rows r lt known g h inside row some none =
+    AreRead-more R old new all (drop (i + 1) all) (get_or all i d) rows r (subst (λ rest. AreRead R old all rest rows) (drop_more all i d lt) known) g h inside row some none
+
+pub AreRead-all : {X : Type 0} (R : X → Row → Type 0) (a : Arena) (all rest : List X) (rows : List BlockLine) → rest ≡ [] → AreRead R a all rest rows → AreEach R all (rows_of a rows)
+AreRead-all R a all rest rows e known = rw (← append-nil (rows_of a rows)) (known.lines [] (rw e tt))
 
 none-of : {X : Type 0} (o : Option X) → is_some o ≡ false → o ≡ None
 none-of None h = refl
@@ -171,3 +177,32 @@ none-of (Some x) h = cc
 pub IsLineOf-found : (line : LogicalLine) (a : Arena) (o : Option NodeId) → is_some line.fault ≡ false → IfSome o (λ id. (id.0 < length a.nodes) × IsLineTree line.tokens (tree_of a id)) → ((t : SyntaxTree) → IsLineTree line.tokens t → IsSomeAnd o (λ id. tree_of a id ≡ t)) → IsNodeOf (length a.nodes) o × IsLineOf line (option_map (tree_of a) o)
 IsLineOf-found line a None free found only = (tt, λ no_fault t h. only t h)
 IsLineOf-found line a (Some id) free found only = (found.0, (none-of line.fault free, found.1))
+
+-- ---- the leaf of an error line
+
+pub same-grows : (old new : Arena) → new ≡ old → Grows old new
+same-grows old new is = rw is (Grows-refl old)
+
+pub leaf-grows : (old new : Arena) (x : Node) → new ≡ record old { nodes = old.nodes ++ x ∷ [] } → Grows old new
+leaf-grows old new x is = rw is (Grows-add old x)
+
+pub leaf-tree : (old new : Arena) (x : Node) (id : NodeId) → x.word ≡ words.Nothing → x.parts ≡ [] → id.0 ≡ length old.nodes → new ≡ record old { nodes = old.nodes ++ x ∷ [] } → (id.0 < length new.nodes) × (tree_of new id ≡ node x.kind x.span nothing no_parts)
+leaf-tree old new x id word none at is =
+    let len : length new.nodes ≡ length old.nodes + 1 = ap (λ (a : Arena). length a.nodes) is ∙ length-append old.nodes (x ∷ []) in (
+      omega arith,
+      ap (λ (a : Arena). tree_of a id) is ∙ tree_of-new old x id at ∙ ap (λ (w : Word). node x.kind x.span (said old.names w) (parts_at (trees old) x.parts)) word ∙ ap (λ (ps : List NodeId). node x.kind x.span nothing (parts_at (trees old) ps)) none,
+    )
+
+pub leaf-added : (old new : Arena) (x : Node) (id : NodeId) → x.parts ≡ [] → id.0 ≡ length old.nodes → new ≡ record old { nodes = old.nodes ++ x ∷ [] } → AddsOneTree old new id
+leaf-added old new x id none at is = record {
+  newest = let n = len in omega arith;
+  added = let n = len in omega arith;
+  once = λ n from below. let m = len in absurd (omega arith);
+  apart = λ n below. ap (times n) parts;
+}
+  where
+    len : length new.nodes ≡ length old.nodes + 1
+    len = ap (λ (a : Arena). length a.nodes) is ∙ length-append old.nodes (x ∷ [])
+
+    parts : all_parts new.nodes ≡ all_parts old.nodes
+    parts = ap (λ (a : Arena). all_parts a.nodes) is ∙ (all_parts-append old.nodes (x ∷ []) ∙ (ap (λ (ps : List NodeId). all_parts old.nodes ++ (ps ++ [])) none ∙ append-nil (all_parts old.nodes)))

@@ -3,10 +3,11 @@
 //!
 //! In one sentence: the tree that `line_tree` gives is the one tree of the line, and it gives none
 //! exactly where there is none (`IsLineTree`, in `specs/Line.antt`); `blocks` gives the module of a
-//! text's lines, or its first faulty line (`IsModule`, in `specs/Module.antt`). A line reads by its
+//! text's lines, with a leaf for each error line, and the faults of these (`IsModule`, in
+//! `specs/Module.antt`). A line reads by its
 //! soft keyword, `match` or `case`, and by the round brackets behind its `with`, where it can, and
 //! else as any other line. Below stand `py_base` (trees), `py_tokens`, `py_grammar` (the grammar of a
-//! line as a table, and its reader), `py_blocks` (the first faulty line) and `py_modules` (the tree
+//! line as a table, and its reader), `py_blocks` (the nesting of lines) and `py_modules` (the tree
 //! over the trees of lines).
 #![tactic(auto)]
 

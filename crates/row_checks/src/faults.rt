@@ -22,11 +22,12 @@ fn fault_fact(
     format!(in alloc; "{}: {kind:?}", words_of(source, span))
 }
 
-/// The first faulty line, by its words, and what is wrong with it.
+/// The faulty lines, by their words, and what is wrong with each.
 pub fn facts(alloc: Global, source: &str) -> Result<Vec<String>, NoMemory> {
     let mut facts = Vec::new(alloc);
-    if let Some((span, kind)) = module_of(alloc, source)?.fault {
-        facts.push(fault_fact(alloc, source, span, kind)?)?;
+    let found = module_of(alloc, source)?;
+    for (span, kind) in found.faults.as_slice() {
+        facts.push(fault_fact(alloc, source, *span, *kind)?)?;
     }
     Ok(facts)
 }

@@ -1,6 +1,6 @@
 use Rattle.std.proofs.Common.{◌++◌, ◌∷◌, [], ◌+◌, List, ℕ, nat_lt, ap, ◌∙◌}
 use Rattle.std.specs.List.{filter}
-use Rattle.py_blocks.specs.Blocks.{column_at}
+use Rattle.py_blocks.specs.Enclosing.{column_at}
 use Rattle.py_blocks.proofs.OpenBlocks.{open-next}
 use Rattle.py_blocks.proofs.open_blocks.enter.Goals as goal
 

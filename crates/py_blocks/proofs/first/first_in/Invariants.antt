@@ -1,7 +1,0 @@
-use Rattle.std.proofs.Common.{◌≡◌, ℕ, ◌<◌, None}
-use Rattle.py_blocks.specs.Faults.{fault_in}
-use Rattle.py_blocks.specs.Shortcuts.{open_at}
-use Rattle.py_blocks.proofs.first.first_in.Given as goal
-
-abbrev pub invariant-loop-line : goal.invariant-loop-line
-invariant-loop-line l = ((i : ℕ) → i < l.line → fault_in l.lines i ≡ None) × (l.blocks.items ≡ open_at l.lines l.line)

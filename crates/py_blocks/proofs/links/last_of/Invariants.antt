@@ -1,6 +1,0 @@
-use Rattle.std.proofs.Common.{◌≡◌, take}
-use Rattle.py_blocks.specs.Kept.{last_of}
-use Rattle.py_blocks.proofs.links.last_of.Given as goal
-
-abbrev pub invariant-loop-block : goal.invariant-loop-block
-invariant-loop-block l = l.found ≡ last_of l.lines l.sort (take l.block-index l.blocks)
