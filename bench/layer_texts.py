@@ -102,6 +102,38 @@ def nonlocals(count):
     return "def f():\n x = 1\n def g():\n  nonlocal x\n  x = 2\n" * count
 
 
+# Modules with faulty lines, so many of them.
+
+
+def faulty_lines(count):
+    """Every second line has no tree."""
+    return "a\n= =\n" * count
+
+
+def faulty_headers(count):
+    """Headers without a tree, each over a block that is passed over."""
+    return "while a = 1:\n b\n if c:\n  d\n" * count
+
+
+def faulty_lines_between_clauses(count):
+    """One `try`, and a line without a tree before each handler."""
+    return "try:\n b\n" + "= =\nexcept A:\n b\n" * count
+
+
+def tries_without_clauses(count):
+    return "try:\n a\n" * count
+
+
+def faulty_columns(count):
+    """Lines without a tree at columns that rise and fall."""
+    return "".join(" " * (at * 7 % 20) + "= =\n" for at in range(count))
+
+
+def faulty_lines_in_blocks(count):
+    """Blocks in one another, the inner one without a line that has a tree."""
+    return "if a:\n if b:\n  = =\n else:\n  c\n" * count
+
+
 # Modules of many names or scopes.
 
 
