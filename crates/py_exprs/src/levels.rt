@@ -44,7 +44,7 @@ fn need_of(level: u8) -> Need
 /// `None` exactly where the tokens spell no such tree: one in which each part has the level that
 /// its place asks, arguments, parameters, targets and the entries of brackets stand as they may,
 /// and which is at most 256 high. `NoMemory` where a node or a name could not be stored. After
-/// both the tree is as before. What is added is at most two nodes and one name for each token. Time
+/// both the tree is as before. What is added is at most three nodes and one name for each token. Time
 /// goes by the number of tokens.
 ///
 /// Python 3.12 language reference, section 6, with its table of precedence in 6.17.
@@ -62,8 +62,8 @@ pub fn expression(
     ensures only { IfOk result (λ o. (t : SyntaxTree) → IsTreeOf tokens.now (need_at level) t → IsSomeAnd o (λ id. tree_of tree.new id ≡ t)) }
     // What was added is this one tree: its root is the newest node, and no node is a part twice.
     ensures once { IfOk result (λ o. IfSome o (λ id. AddsOneTree tree.old tree.new id)) }
-    // Each token adds at most two nodes and one name.
-    ensures grows { AddsAtMost (2 * length tokens.now) (length tokens.now) tree.old tree.new }
+    // Each token adds at most three nodes and one name.
+    ensures grows { AddsAtMost (3 * length tokens.now) (length tokens.now) tree.old tree.new }
     ensures none { IfOk result (λ o. IfNone o (tree.new ≡ tree.old)) }
     ensures err { OnErr result (tree.new ≡ tree.old) }
 {

@@ -1,6 +1,7 @@
 -- How much is added, as forms are read and put together.
-use Rattle.std.proofs.Common.{◌≡◌, ℕ, suc, ◌+◌, ◌*◌, ◌<◌, ◌≤◌, Bool, true, false, List, [], ◌∷◌, ◌++◌, length, drop, Some, refl, sym, arith, length-append}
-use Rattle.std.specs.Prelude.{not}
+use Rattle.std.proofs.Common.{◌≡◌, ℕ, suc, ◌+◌, ◌*◌, ◌<◌, ◌≤◌, Bool, true, false, List, [], ◌∷◌, ◌++◌, length, take, drop, Some, refl, sym, ◌∙◌, ap, arith, length-append}
+use Rattle.std.proofs.lemmas.List.{take-append-drop}
+use Rattle.std.specs.Prelude.{not, ◌&&◌}
 use Rattle.std.specs.Borrow.{Bor}
 use Rattle.py_base.specs.declared.node.Node.{Node}
 use Rattle.py_base.specs.declared.node.NodeKind.{NodeKind}
@@ -13,7 +14,7 @@ use Rattle.py_grammar.specs.declared.words.Terminal.TheVariants as terminals
 use Rattle.py_grammar.specs.declared.found.Found.{Found}
 use Rattle.py_grammar.specs.declared.found.Item.{Item}
 use Rattle.py_grammar.specs.declared.found.Item.TheVariants as items
-use Rattle.py_grammar.specs.Meaning.{mark_for, only_if, holds_name, takes_name, is_name, is_slice, is_relative}
+use Rattle.py_grammar.specs.Meaning.{mark_for, only_if, holds_name, takes_name, is_name, is_slice, is_relative, has_arguments}
 use Rattle.py_grammar.specs.Found.{item_words}
 use Rattle.py_grammar.specs.Added.{AddsAtMost, ArePaid, one_if, unless}
 use Rattle.py_grammar.proofs.Finite.{every, all_forms, each_form, implies, implied}
@@ -93,19 +94,38 @@ pub within-all : (b : Bool) (old new : Arena) (all left : ℕ) → IsWithin b ol
 within-all b old new all left h = (omega (arith, h.nodes), omega (arith, h.names))
 
 -- a node with a word of its own over its items
-pub assembled-adds : (b : Bool) (old t1 t2 new : Arena) (n : ℕ) → AddsAtMost 0 (one_if b) old t1 → AddsAtMost n (unless b n) t1 t2 → AddsAtMost 1 0 t2 new → 0 < n → AddsAtMost (2 * n) n old new
-assembled-adds true old t1 t2 new n f g h some_ = (omega (arith, f.0, g.0, h.0), omega (arith, f.1, g.1, h.1))
-assembled-adds false old t1 t2 new n f g h some_ = (omega (arith, f.0, g.0, h.0), omega (arith, f.1, g.1, h.1))
-
--- ---- what tokens pay for
-
-pub paid-none : (a : Arena) (n : ℕ) → ArePaid a n a n
-paid-none a n = record { nodes = omega arith; names = omega arith }
+pub assembled-adds : (b : Bool) (old t1 t2 new : Arena) (n : ℕ) → AddsAtMost 0 (one_if b) old t1 → AddsAtMost n (unless b n) t1 t2 → AddsAtMost 1 0 t2 new → AddsAtMost (n + 1) (one_if b + unless b n) old new
+assembled-adds b old t1 t2 new n f g h = (omega (arith, f.0, g.0, h.0), omega (arith, f.1, g.1, h.1))
 
 words-append : (xs ys : List Item) → length (item_words (xs ++ ys)) ≡ length (item_words xs) + length (item_words ys)
 words-append [] ys = omega arith
 words-append (items.Word w ∷ xs) ys = let rest = words-append xs ys in omega (arith, rest)
 words-append (items.Part x ∷ xs) ys = words-append xs ys
+
+-- a form alone
+pub form-adds : (b : Bool) (old new : Arena) (n : ℕ) → AddsAtMost (n + 1) (one_if b + unless b n) old new → 0 < n → AddsAtMost (3 * n) n old new
+form-adds true old new n h some_ = (omega (arith, h.0), omega (arith, h.1))
+form-adds false old new n h some_ = (omega (arith, h.0), omega (arith, h.1))
+
+arguments-unnamed : (f : Form) → has_arguments f ≡ true → takes_name f ≡ false
+arguments-unnamed f h = not-held _ (implied _ _ (each_form (λ g. implies (has_arguments g) (not (takes_name g))) f refl) h)
+
+pub arguments-true : (b c : Bool) → true ≡ (b && c) → b ≡ true
+arguments-true true c e = refl
+arguments-true false c e = cc
+
+-- a comprehension in brackets, and the form over what stands before them and over it
+pub brackets-add : (f : Form) (old mid new : Arena) (xs : List Item) (n : ℕ) (x : Found) → has_arguments f ≡ true → AddsAtMost (length (item_words (drop n xs)) + 1) (length (item_words (drop n xs))) old mid → AddsAtMost (length (item_words (take n xs ++ items.Part x ∷ [])) + 1) (one_if (takes_name f) + unless (takes_name f) (length (item_words (take n xs ++ items.Part x ∷ [])))) mid new → 0 < length (item_words xs) → AddsAtMost (3 * length (item_words xs)) (length (item_words xs)) old new
+brackets-add f old mid new xs n x h g k some_ =
+    let k2 = rw (arguments-unnamed f h) at k in
+    let front = words-append (take n xs) (items.Part x ∷ []) in
+    let whole : length (item_words xs) ≡ length (item_words (take n xs)) + length (item_words (drop n xs)) = ap (λ ys. length (item_words ys)) (sym (take-append-drop n xs)) ∙ words-append (take n xs) (drop n xs) in
+    (omega (arith, g.0, k2.0, front, whole), omega (arith, g.1, k2.1, front, whole))
+
+-- ---- what tokens pay for
+
+pub paid-none : (a : Arena) (n : ℕ) → ArePaid a n a n
+paid-none a n = record { nodes = omega arith; names = omega arith }
 
 -- a word that comes to the items pays later
 pub paid-word : (old now : Arena) (all least : ℕ) (xs : List Item) (w : Bor Token) (rest others : List Token) → rest ≡ w.now ∷ others → least ≤ length (item_words xs) → ArePaid old all now (length (item_words xs) + length rest) → (least ≤ length (item_words (xs ++ items.Word w ∷ []))) × ArePaid old all now (length (item_words (xs ++ items.Word w ∷ [])) + length others)
@@ -121,18 +141,18 @@ paid-part old now new all least before left xs x le h g =
     (omega (arith, same, le), record { nodes = omega (arith, same, h.nodes, g.nodes); names = omega (arith, same, h.names, g.names) })
 
 -- the words of a form pay for its node
-paid-form : (old now mid new : Arena) (all first before words left : ℕ) → first ≡ 1 → ArePaid old all now (suc before) → first ≤ words → ArePaid now (first + before) mid (words + left) → (0 < words → AddsAtMost (2 * words) words mid new) → ArePaid old all new left
+paid-form : (old now mid new : Arena) (all first before words left : ℕ) → first ≡ 1 → ArePaid old all now (suc before) → first ≤ words → ArePaid now (first + before) mid (words + left) → (0 < words → AddsAtMost (3 * words) words mid new) → ArePaid old all new left
 paid-form old now mid new all first before words left one h le p g =
     let some_ : 0 < words = omega (arith, one, le) in
     let a = g some_ in
     record { nodes = omega (arith, one, h.nodes, p.nodes, a.0); names = omega (arith, one, h.names, p.names, a.1) }
 
-pub begun-pays : (old mid new : Arena) (first xs : List Item) (w : Bor Token) (tokens others : List Token) (left : ℕ) → first ≡ items.Word w ∷ [] → tokens ≡ w.now ∷ others → (length (item_words first) ≤ length (item_words xs)) × ArePaid old (length (item_words first) + length others) mid (length (item_words xs) + left) → (0 < length (item_words xs) → AddsAtMost (2 * length (item_words xs)) (length (item_words xs)) mid new) → ArePaid old (length tokens) new left
+pub begun-pays : (old mid new : Arena) (first xs : List Item) (w : Bor Token) (tokens others : List Token) (left : ℕ) → first ≡ items.Word w ∷ [] → tokens ≡ w.now ∷ others → (length (item_words first) ≤ length (item_words xs)) × ArePaid old (length (item_words first) + length others) mid (length (item_words xs) + left) → (0 < length (item_words xs) → AddsAtMost (3 * length (item_words xs)) (length (item_words xs)) mid new) → ArePaid old (length tokens) new left
 begun-pays old mid new first xs w tokens others left one e p g =
     let single : length (item_words first) ≡ 1 = rw one refl in
     rw e (paid-form old old mid new (suc (length others)) _ (length others) _ left single (paid-none old (suc (length others))) p.0 p.1 g)
 
-pub joined-pays : (old now mid new : Arena) (all : ℕ) (first xs : List Item) (x : Found) (w : Bor Token) (tokens others : List Token) (left : ℕ) → first ≡ items.Part x ∷ items.Word w ∷ [] → tokens ≡ w.now ∷ others → ArePaid old all now (length tokens) → (length (item_words first) ≤ length (item_words xs)) × ArePaid now (length (item_words first) + length others) mid (length (item_words xs) + left) → (0 < length (item_words xs) → AddsAtMost (2 * length (item_words xs)) (length (item_words xs)) mid new) → ArePaid old all new left
+pub joined-pays : (old now mid new : Arena) (all : ℕ) (first xs : List Item) (x : Found) (w : Bor Token) (tokens others : List Token) (left : ℕ) → first ≡ items.Part x ∷ items.Word w ∷ [] → tokens ≡ w.now ∷ others → ArePaid old all now (length tokens) → (length (item_words first) ≤ length (item_words xs)) × ArePaid now (length (item_words first) + length others) mid (length (item_words xs) + left) → (0 < length (item_words xs) → AddsAtMost (3 * length (item_words xs)) (length (item_words xs)) mid new) → ArePaid old all new left
 joined-pays old now mid new all first xs x w tokens others left two e h p g =
     let single : length (item_words first) ≡ 1 = rw two refl in
     let h2 : ArePaid old all now (suc (length others)) = rw e at h in
@@ -140,5 +160,5 @@ joined-pays old now mid new all first xs x w tokens others left two e h p g =
 
 -- ---- what is added in all
 
-pub paid-all : (old new : Arena) (all left : ℕ) → ArePaid old all new left → AddsAtMost (2 * all) all old new
+pub paid-all : (old new : Arena) (all left : ℕ) → ArePaid old all new left → AddsAtMost (3 * all) all old new
 paid-all old new all left h = (omega (arith, h.nodes), omega (arith, h.names))

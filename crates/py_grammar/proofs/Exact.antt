@@ -1,5 +1,5 @@
 -- The whole of the tokens is one tree, or there is none.
-use Rattle.std.proofs.Common.{◌&&◌, ◌==◌, nat_le, take, ◌≡◌, ℕ, suc, ◌≤◌, max, Bool, true, List, [], ◌∷◌, ◌++◌, length, Option, Some, None, refl, sym, ◌∙◌, ap, subst, arith, append-nil}
+use Rattle.std.proofs.Common.{◌&&◌, ◌==◌, nat_le, take, drop, cond, ◌≡◌, ℕ, zero, suc, ◌≤◌, max, Bool, true, false, List, [], ◌∷◌, ◌++◌, length, Option, Some, None, refl, sym, ◌∙◌, ap, subst, arith, append-nil}
 use Rattle.std.proofs.lemmas.Bool.{and_parts, eqb-true, leb-true, le-leb}
 use Rattle.py_base.specs.Tree.{Arena, SyntaxTree, height, height_of, tree_of, IsLinked, Grows}
 use Rattle.py_base.specs.TreeLaws.{Grows-refl}
@@ -7,12 +7,13 @@ use Rattle.py_grammar.proofs.KnownLemmas.{cut_back}
 use Rattle.py_tokens.specs.declared.lines.Token.{Token}
 use Rattle.py_grammar.specs.declared.words.Terminal.TheVariants as terminals
 use Rattle.py_grammar.specs.declared.words.Form.{Form}
+use Rattle.py_grammar.specs.declared.words.Form.TheVariants as forms
 use Rattle.py_grammar.specs.declared.words.Need.{Need}
 use Rattle.py_grammar.specs.declared.found.Found.{Found}
 use Rattle.py_grammar.specs.Table.{plain}
 use Rattle.py_grammar.specs.Terminal.{terminal}
 use Rattle.py_grammar.specs.Reading.{Reading, opened, joined, Parts, no_more, word, part, depth, depth_parts, spell, IsWellFormed, Meets}
-use Rattle.py_grammar.specs.Meaning.{Piece, of_word, of_tree, kept, marked, mark_for, is_tree_next, listed, tree_of_reading, pieces}
+use Rattle.py_grammar.specs.Meaning.{Piece, of_word, of_tree, kept, marked, mark_for, is_tree_next, listed, one_node, called, is_comprehension, bracketed, assembled, tree_of_reading, pieces}
 use Rattle.py_grammar.specs.Parse.{read_tree, read}
 use Rattle.py_grammar.specs.Levelled.{IsTreeOf}
 use Rattle.py_grammar.specs.Found.{IsFoundTree}
@@ -39,16 +40,33 @@ height-kept f (of_word w ∷ xs) =
     omega arith
 height-kept f (of_tree t ∷ xs) = let h = height-kept f xs in omega arith
 
+height-node : (f : Form) (xs : List Piece) → suc (highest_piece xs) ≤ height (one_node f xs)
+height-node f xs = let h = height-kept f xs in omega arith
+
+-- a tree in place of what is in it is no lower
+height-assembled : (f : Form) (xs : List Piece) → suc (highest_piece xs) ≤ height (assembled f xs)
+height-assembled f xs = go (is_comprehension f xs)
+  where
+    split : (n : ℕ) (ys : List Piece) → highest_piece ys ≤ highest_piece (take n ys ++ of_tree (one_node forms.Round (drop n ys)) ∷ [])
+    split zero ys = let h = height-node forms.Round ys in omega arith
+    split (suc n) [] = omega arith
+    split (suc n) (of_word w ∷ ys) = split n ys
+    split (suc n) (of_tree t ∷ ys) = let h = split n ys in omega arith
+
+    go : (b : Bool) → suc (highest_piece xs) ≤ height (one_node f (cond b (bracketed f xs) xs))
+    go true = let h = split (called f) xs in let k = height-node f (bracketed f xs) in omega arith
+    go false = height-node f xs
+
 mutual
   depth-height : (t : Reading) → depth t ≤ height (tree_of_reading t)
   depth-height (opened f w ps) =
       let h = depth-highest ps in
-      let k = height-kept f (of_word w ∷ pieces ps) in
+      let k = height-assembled f (of_word w ∷ pieces ps) in
       omega arith
   depth-height (joined f t w ps) =
       let g = depth-height t in
       let h = depth-highest ps in
-      let k = height-kept f (of_tree (tree_of_reading t) ∷ of_word w ∷ pieces ps) in
+      let k = height-assembled f (of_tree (tree_of_reading t) ∷ of_word w ∷ pieces ps) in
       omega arith
 
   depth-highest : (ps : Parts) → depth_parts ps ≤ highest_piece (pieces ps)

@@ -1,8 +1,8 @@
 -- How often nodes are parts, as nodes come over others.
-use Rattle.std.proofs.Common.{◌≡◌, ℕ, zero, suc, ◌+◌, ◌<◌, ◌≤◌, ◌==◌, nat_lt, Bool, true, false, List, [], ◌∷◌, ◌++◌, length, drop, refl, sym, ◌∙◌, ap, arith, ◌⊎◌, inl, inr, append-nil, append_assoc, length-append}
+use Rattle.std.proofs.Common.{◌≡◌, ℕ, zero, suc, ◌+◌, ◌<◌, ◌≤◌, ◌==◌, nat_lt, Bool, true, false, List, [], ◌∷◌, ◌++◌, length, take, drop, refl, sym, ◌∙◌, ap, arith, ◌⊎◌, inl, inr, append-nil, append_assoc, length-append}
 use Rattle.std.proofs.lemmas.Bool.{ltb-true, ltb-false}
 use Rattle.std.proofs.lemmas.Bool.Decides.{eqb_tells}
-use Rattle.std.proofs.lemmas.List.{map-append}
+use Rattle.std.proofs.lemmas.List.{map-append, take-append-drop}
 use Rattle.py_base.specs.declared.ids.NodeId.{NodeId}
 use Rattle.py_base.specs.declared.node.Node.{Node}
 use Rattle.py_base.specs.Tree.{Arena, AreOlder, AreLinked, IsLinked}
@@ -14,6 +14,7 @@ use Rattle.py_tokens.specs.declared.lines.Token.{Token}
 use Rattle.py_grammar.specs.declared.found.Found.{Found}
 use Rattle.py_grammar.specs.declared.found.Item.{Item}
 use Rattle.py_grammar.specs.declared.found.Item.TheVariants as items
+use Rattle.py_grammar.proofs.KnownLemmas.{known-take, known-drop}
 use Rattle.py_grammar.specs.Found.{AllKnown, AreKnown, Extends, item_ids, found_ids, uses, Keeps, IsNewest}
 
 times-other : (n : ℕ) (id : NodeId) (ids : List NodeId) → id.0 < n → times n (id ∷ ids) ≡ times n ids
@@ -173,12 +174,6 @@ keep_none-keeps a ps item w e = rw (e, append-nil (found_ids ps)) (Keeps-same a 
 pub keep_leaf-keeps : (a a2 : Arena) (ps new : List Found) (item : Item) (w : Bor Token) (x : Found) → item ≡ items.Word w → AllKnown a ps → Keeps a [] a2 (x.id ∷ []) → new ≡ ps ++ x ∷ [] → Keeps a (found_ids ps ++ item_ids (item ∷ [])) a2 (found_ids new)
 keep_leaf-keeps a a2 ps new item w x e k g n = rw (e, n, map-append (λ (y : Found). y.id) ps (x ∷ [])) (Keeps-before a a2 (found_ids ps) [] (x.id ∷ []) (older-found a ps k) g)
 
-known-drop : (a : Arena) (i : ℕ) (xs : List Item) → AreKnown a xs → AreKnown a (drop i xs)
-known-drop a zero xs h = h
-known-drop a (suc i) [] h = tt
-known-drop a (suc i) (items.Word w ∷ xs) h = known-drop a i xs h
-known-drop a (suc i) (items.Part x ∷ xs) h = known-drop a i xs h.1
-
 known-tail : (a : Arena) (item : Item) (behind : List Item) → AreKnown a (item ∷ behind) → AreKnown a behind
 known-tail a (items.Word w) behind h = h
 known-tail a (items.Part x) behind h = h.1
@@ -190,3 +185,12 @@ kept-next-keeps old mid new xs i item behind ps qs e k first so_far next =
     let whole : found_ids ps ++ item_ids (drop i xs) ≡ (found_ids ps ++ item_ids (item ∷ [])) ++ item_ids behind = rw first (ap (λ ids. found_ids ps ++ ids) (item_ids-append (item ∷ []) behind) ∙ sym (append_assoc (found_ids ps) (item_ids (item ∷ [])) (item_ids behind))) in
     let so_far2 : Keeps old (item_ids xs) mid ((found_ids ps ++ item_ids (item ∷ [])) ++ item_ids behind) = rw whole at so_far in
     Keeps-trans old mid new (item_ids xs) ((found_ids ps ++ item_ids (item ∷ [])) ++ item_ids behind) (found_ids qs ++ item_ids behind) (Grows-nodes old mid e.grown) so_far2 (Keeps-behind mid new (item_ids behind) (found_ids ps ++ item_ids (item ∷ [])) (found_ids qs) older next)
+
+-- a node over others and a new one, which is over the rest
+pub brackets-keep : (old mid new : Arena) (n : ℕ) (xs : List Item) (x y : Found) → AreKnown old xs → Extends old mid → Keeps old (item_ids (drop n xs)) mid (x.id ∷ []) → Keeps mid (item_ids (take n xs ++ items.Part x ∷ [])) new (y.id ∷ []) → IsNewest mid new y.id → Keeps old (item_ids xs) new (y.id ∷ []) × IsNewest old new y.id
+brackets-keep old mid new n xs x y k e h g i =
+    let front = item_ids (take n xs) in
+    let whole : item_ids xs ≡ front ++ item_ids (drop n xs) = ap (λ ys. item_ids ys) (sym (take-append-drop n xs)) ∙ item_ids-append (take n xs) (drop n xs) in
+    let h2 : Keeps old (item_ids xs) mid (front ++ x.id ∷ []) = rw whole (Keeps-before old mid front (item_ids (drop n xs)) (x.id ∷ []) (older-items old (take n xs) (known-take old n xs k)) h) in
+    let g2 : Keeps mid (front ++ x.id ∷ []) new (y.id ∷ []) = rw (item_ids-append (take n xs) (items.Part x ∷ [])) at g in
+    (Keeps-trans old mid new (item_ids xs) (front ++ x.id ∷ []) (y.id ∷ []) (Grows-nodes old mid e.grown) h2 g2, newest-later old mid new y.id e i)

@@ -1,10 +1,10 @@
 -- What is known of nodes stays known as the arena grows, and what is known of a new node follows from its parts.
 use Rattle.std.proofs.Common.{◌≡◌, ℕ, suc, ◌+◌, ◌<◌, ◌≤◌, min, max, Bool, true, false, cond, List, [], ◌∷◌, ◌++◌, length, map, fold, take, drop, get_or, zero, Option, Some, None, find, refl, sym, ◌∙◌, ap, arith, slice_get, append-nil, append_assoc, length-append}
-use Rattle.std.specs.Prelude.{bytes_eq}
+use Rattle.std.specs.Prelude.{bytes_eq, ◌&&◌}
 use Rattle.std.specs.List.{list_all, list_any}
 use Rattle.std.specs.Borrow.{Bor}
 use Rattle.std.proofs.Math.Seq.{drop-cons}
-use Rattle.std.proofs.lemmas.List.{map-append}
+use Rattle.std.proofs.lemmas.List.{map-append, take-map, drop-map}
 use Rattle.std.proofs.lemmas.Option.{get_or_from_slice_get, slice_get_within}
 use Rattle.py_base.specs.declared.ids.NameId.{NameId}
 use Rattle.py_base.specs.declared.span.Span.{Span}
@@ -16,17 +16,18 @@ use Rattle.py_base.specs.Tree.{Arena, SyntaxTree, node, with_part, name, said, t
 use Rattle.py_base.specs.TreeLaws.{tree_of-later, tree_of-new, IsLinked-add, Grows-refl, Grows-trans, Grows-nodes, Grows-names, Grows-add, AreLinked-later, said-later, IsNamed-later}
 use Rattle.py_tokens.specs.declared.lines.Token.{Token}
 use Rattle.py_grammar.specs.declared.words.Form.{Form}
+use Rattle.py_grammar.specs.declared.words.Form.TheVariants as forms
 use Rattle.py_grammar.specs.declared.found.Found.{Found}
 use Rattle.py_grammar.specs.declared.found.Item.{Item}
 use Rattle.py_grammar.specs.declared.found.Item.TheVariants as items
-use Rattle.py_grammar.specs.Meaning.{of_word, of_tree, listed, named, words_of, is_tree_next, piece_span, first_from, last_to, kept, kept_one, mark_for, leaf_of, is_name, said_leaf, kind_for, said_for, assembled}
+use Rattle.py_grammar.specs.Meaning.{of_word, of_tree, listed, named, words_of, is_tree_next, piece_span, first_from, last_to, kept, kept_one, mark_for, leaf_of, is_name, said_leaf, kind_for, said_for, one_node, assembled, is_clause_piece, has_arguments, called}
 use Rattle.py_grammar.specs.declared.words.Terminal.{Terminal}
 use Rattle.py_grammar.specs.Terminal.{terminal}
 use Rattle.py_grammar.specs.Table.{plain}
 use Rattle.py_grammar.specs.declared.order.Binding.{Binding}
 use Rattle.py_grammar.specs.declared.order.Binding.TheVariants as bindings
 use Rattle.py_grammar.specs.Proper.{parts_proper, are_proper, are_targets, are_assigned, have_colon, are_unreal, begins_unreal, begins_signed, is_faulty, kinds_of, binding}
-use Rattle.py_grammar.specs.Found.{capped, IsKnown, AllKnown, AreKnown, piece_at, pieces_at, trees_at, item_words, is_part_next, item_span, items_from, assigned_over, begins_unreal_over, begins_signed_over, faulty_over, signed_over, unreal_over, parts_proper_over, proper_over, target_over, colon_over, highest, Extends, is_item, word_in}
+use Rattle.py_grammar.specs.Found.{capped, IsKnown, AllKnown, AreKnown, piece_at, pieces_at, trees_at, item_words, is_part_next, item_span, items_from, is_clause_item, assigned_over, begins_unreal_over, begins_signed_over, faulty_over, signed_over, unreal_over, parts_proper_over, proper_over, target_over, colon_over, highest, Extends, is_item, word_in}
 
 pub Extends-refl : (a : Arena) → IsLinked a → Extends a a
 Extends-refl a h = record { grown = Grows-refl a; linked = h }
@@ -73,6 +74,18 @@ pub AreKnown-append : (a : Arena) (xs ys : List Item) → AreKnown a xs → AreK
 AreKnown-append a [] ys h k = k
 AreKnown-append a (items.Word w ∷ xs) ys h k = AreKnown-append a xs ys h k
 AreKnown-append a (items.Part x ∷ xs) ys h k = (h.0, AreKnown-append a xs ys h.1 k)
+
+pub known-take : (a : Arena) (n : ℕ) (xs : List Item) → AreKnown a xs → AreKnown a (take n xs)
+known-take a zero xs h = tt
+known-take a (suc n) [] h = tt
+known-take a (suc n) (items.Word w ∷ xs) h = known-take a n xs h
+known-take a (suc n) (items.Part x ∷ xs) h = (h.0, known-take a n xs h.1)
+
+pub known-drop : (a : Arena) (n : ℕ) (xs : List Item) → AreKnown a xs → AreKnown a (drop n xs)
+known-drop a zero xs h = h
+known-drop a (suc n) [] h = tt
+known-drop a (suc n) (items.Word w ∷ xs) h = known-drop a n xs h
+known-drop a (suc n) (items.Part x ∷ xs) h = known-drop a n xs h.1
 
 pub pieces_at-later : (old new : Arena) (xs : List Item) → IsLinked old → Extends old new → AreKnown old xs → pieces_at new xs ≡ pieces_at old xs
 pieces_at-later old new [] h g k = refl
@@ -269,7 +282,7 @@ drop-item xs i x lt is =
     drop-cons xs i x lt ∙ ap (λ y. y ∷ drop (suc i) xs) (sym is) ∙ ap (λ n. x ∷ drop n xs) one
 
 -- the node over items is the one over what they stand for
-pub assembled_is : (old t1 t2 : Arena) (f : Form) (xs : List Item) (w : Word) (vs : List Found) (k : NodeKind) (s : Span) → IsLinked old → Extends old t1 → Extends t1 t2 → AreKnown old xs → said t1.names w ≡ said_for f (item_words xs) → IsNamed (length t1.names) w → trees_at t2 vs ≡ kept f (pieces_at t1 xs) → k ≡ kind_for f (item_words xs) → s ≡ record { from = items_from xs; to = fold (λ end x. (item_span x).to) 0 xs } → node k s (said t2.names w) (listed (trees_at t2 vs)) ≡ assembled f (pieces_at old xs)
+pub assembled_is : (old t1 t2 : Arena) (f : Form) (xs : List Item) (w : Word) (vs : List Found) (k : NodeKind) (s : Span) → IsLinked old → Extends old t1 → Extends t1 t2 → AreKnown old xs → said t1.names w ≡ said_for f (item_words xs) → IsNamed (length t1.names) w → trees_at t2 vs ≡ kept f (pieces_at t1 xs) → k ≡ kind_for f (item_words xs) → s ≡ record { from = items_from xs; to = fold (λ end x. (item_span x).to) 0 xs } → node k s (said t2.names w) (listed (trees_at t2 vs)) ≡ one_node f (pieces_at old xs)
 assembled_is old t1 t2 f xs w vs k s l g1 g2 h said_ named_ kept_ kind_ span_ =
     let later : said t2.names w ≡ said t1.names w = rw g2.grown.names (said-later t1.names g2.grown.more_names w named_) in
     let trees_ : trees_at t2 vs ≡ kept f (pieces_at old xs) = kept_ ∙ ap (λ ps. kept f ps) (pieces_at-later old t1 xs l g1 h) in
@@ -285,3 +298,25 @@ named-later t1 t2 w g h = IsNamed-later (length t1.names) (length t2.names) w (G
 pub leaf_said : (new : Arena) (text : List ℕ) (id : NameId) (k : NodeKind) (w : Token) → true ≡ is_name k → text ≡ w.text → slice_get new.names id.0 ≡ Some text → (said new.names (words.Name id) ≡ said_leaf k w) × (id.0 < length new.names)
 leaf_said new text id k w e same stored =
     (rw (← e, ← same) (ap (λ t. name t) (get_or_from_slice_get new.names id.0 text [] stored)), slice_get_within new.names id.0 text stored)
+
+-- a comprehension among arguments
+clause-at : (a : Arena) (xs : List Item) → AreKnown a xs → list_any is_clause_piece (pieces_at a xs) ≡ list_any is_clause_item xs
+clause-at a [] h = refl
+clause-at a (items.Word w ∷ xs) h = clause-at a xs h
+clause-at a (items.Part x ∷ xs) h = rw (← h.0.kind, clause-at a xs h.1) refl
+
+pub plainly_is : (f : Form) (a : Arena) (xs : List Item) → AreKnown a xs → false ≡ (has_arguments f && list_any is_clause_item xs) → one_node f (pieces_at a xs) ≡ assembled f (pieces_at a xs)
+plainly_is f a xs h e = rw (clause-at a xs h, ← e) refl
+
+pub bracketed_is : (f : Form) (old mid : Arena) (xs : List Item) (x : Found) → IsLinked old → Extends old mid → AreKnown old xs → true ≡ (has_arguments f && list_any is_clause_item xs) → tree_of mid x.id ≡ one_node forms.Round (pieces_at old (drop (called f) xs)) → one_node f (pieces_at mid (take (called f) xs ++ items.Part x ∷ [])) ≡ assembled f (pieces_at old xs)
+bracketed_is f old mid xs x l g h e t =
+    let n = called f in
+    let front : pieces_at mid (take n xs) ≡ take n (pieces_at old xs) = pieces_at-later old mid (take n xs) l g (known-take old n xs h) ∙ sym (take-map (piece_at old) n xs) in
+    let behind : tree_of mid x.id ≡ one_node forms.Round (drop n (pieces_at old xs)) = t ∙ ap (λ ps. one_node forms.Round ps) (sym (drop-map (piece_at old) n xs)) in
+    let whole : pieces_at mid (take n xs ++ items.Part x ∷ []) ≡ take n (pieces_at old xs) ++ of_tree (one_node forms.Round (drop n (pieces_at old xs))) ∷ [] = map-append (piece_at mid) (take n xs) (items.Part x ∷ []) ∙ rw (front, behind) refl in
+    rw (clause-at old xs h, ← e) (ap (λ ps. one_node f ps) whole)
+
+pub any-some : {A : Type 0} (P : A → Bool) (xs : List A) (b : Bool) → true ≡ (b && list_any P xs) → 0 < length xs
+any-some P [] true e = cc
+any-some P [] false e = cc
+any-some P (x ∷ xs) b e = omega arith

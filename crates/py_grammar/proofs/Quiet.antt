@@ -174,6 +174,12 @@ ends_element terminals.Comma = true
 ends_element terminals.End = true
 ends_element _ = false
 
+-- behind an index
+abbrev ends_index : Terminal → Bool
+ends_index terminals.CloseSquare = true
+ends_index terminals.End = true
+ends_index _ = false
+
 -- behind the format of a field
 abbrev ends_format : Terminal → Bool
 ends_format terminals.CloseCurly = true
@@ -223,6 +229,7 @@ stops needs.CurlyElement k = ends_entry k
 stops needs.Argument k = ends_argument k
 stops needs.UnpackedArgument k = not (goes_on_conditional k)
 stops needs.AnyArgument k = ends_entry k
+stops needs.Index k = ends_index k
 stops needs.IndexEntry k = ends_entry k
 stops needs.Target k = not (goes_on_bit_or k)
 stops needs.TargetList k = ends_targets k
@@ -250,6 +257,7 @@ stops needs.Result k = not (goes_on_conditional k)
 stops needs.AsyncHeader k = ends_line k
 stops needs.BracketedWith k = ends_line k
 stops needs.Subject k = ends_value k
+stops needs.PatternName k = not (goes_on_primary k)
 stops needs.ClosedPattern k = not (goes_on_sum k)
 stops needs.Alternatives k = not (goes_on_bit_or k)
 stops needs.Pattern k = ends_entry k
@@ -287,6 +295,8 @@ quiet states.ComparedIs k = not (goes_on_comparison k)
 quiet states.ComparedMore k = not (goes_on_comparison k)
 quiet states.LinkOperand k = not (goes_on_comparison k)
 quiet states.LinkIs k = ends_link k
+quiet states.IndexNext k = ends_index k
+quiet states.IndexMore k = ends_index k
 quiet states.LambdaNext k = not (goes_on_conditional k)
 quiet states.LambdaMore k = not (goes_on_conditional k)
 quiet states.StarParameterName k = ends_parameter k
@@ -324,6 +334,8 @@ quiet states.FromFirst k = ends_statement k
 quiet states.FromNext k = ends_statement k
 quiet states.FromMore k = ends_statement k
 quiet states.DotsMore k = ends_source k
+quiet states.DottedNext k = not (goes_on_primary k)
+quiet states.DottedMore k = not (goes_on_primary k)
 quiet states.AliasParameters k = not (goes_on_conditional k)
 quiet states.AliasAssign k = not (goes_on_conditional k)
 quiet states.SuiteFirst k = ends_line k

@@ -7,9 +7,9 @@ use Rattle.py_base.specs.Tree.{Arena}
 abbrev pub AddsAtMost : ℕ → ℕ → Arena → Arena → Type 0
 AddsAtMost nodes names old new = (length new.nodes ≤ length old.nodes + nodes) × (length new.names ≤ length old.names + names)
 
--- What the reader counts by: each token pays for two nodes and one name. So many had not paid before, so many have not paid yet.
+-- What the reader counts by: each token pays for three nodes and one name. So many had not paid before, so many have not paid yet.
 pub record ArePaid (old : Arena) (before : ℕ) (new : Arena) (left : ℕ) : Type 0 where
-  pub nodes : length new.nodes + 2 * left ≤ length old.nodes + 2 * before
+  pub nodes : length new.nodes + 3 * left ≤ length old.nodes + 3 * before
   pub names : length new.names + left ≤ length old.names + before
 
 -- one where it holds

@@ -11,7 +11,7 @@ use Rattle.py_tokens.specs.declared.lines.Token.{Token}
 use Rattle.py_grammar.specs.declared.found.Found.{Found}
 use Rattle.py_grammar.specs.declared.found.Item.{Item}
 use Rattle.py_grammar.specs.declared.found.Item.TheVariants as items
-use Rattle.py_grammar.specs.Meaning.{Piece, of_word, of_tree, tree_of_reading, pieces}
+use Rattle.py_grammar.specs.Meaning.{Piece, of_word, of_tree, is_clause, tree_of_reading, pieces}
 use Rattle.py_grammar.specs.Reading.{Reading, Parts, form_of}
 use Rattle.py_grammar.specs.declared.order.Binding.{Binding}
 use Rattle.py_grammar.specs.declared.order.Binding.TheVariants as bindings
@@ -113,6 +113,11 @@ colon_over k xs = is_lambda k || (not (encloses k) && list_any (λ x. x.colon) x
 abbrev pub highest : List Found → ℕ
 highest [] = 0
 highest (x ∷ xs) = max x.height (highest xs)
+
+-- whether an item is a clause of a comprehension
+abbrev pub is_clause_item : Item → Bool
+is_clause_item (items.Word w) = false
+is_clause_item (items.Part x) = is_clause x.kind
 
 -- the nodes that items stand for
 abbrev pub item_ids : List Item → List NodeId

@@ -1,13 +1,14 @@
 -- The tree of a reading: what is kept of the tokens. A node has the kind of its form, the span from its first to its last token, what
 -- its words say, and its parts; a last comma, the colons of a slice, the dots of a source and some names are leaves of their own; brackets
 -- and other marks leave nothing but their node (Python 3.12 language reference, sections 6 to 8; what is kept is this project's own).
-use Rattle.std.specs.Prelude.{ℕ, ◌==◌, Bool, true, false, not, ◌&&◌, is_some, fold, find, if◌then◌else◌, ℤ, Option, Some, None, List, [], ◌∷◌, ◌++◌, codes}
+use Rattle.std.specs.Prelude.{ℕ, ◌==◌, Bool, true, false, not, ◌&&◌, is_some, take, drop, fold, find, if◌then◌else◌, ℤ, Option, Some, None, List, [], ◌∷◌, ◌++◌, codes}
+use Rattle.std.specs.List.{list_any}
 use Rattle.py_base.specs.declared.span.Span.{Span}
 use Rattle.py_base.specs.declared.node.NodeKind.{NodeKind}
 use Rattle.py_base.specs.declared.node.NodeKind.TheVariants as kinds
 use Rattle.py_base.specs.declared.node.Op.{Op}
 use Rattle.py_base.specs.declared.node.Op.TheVariants as ops
-use Rattle.py_base.specs.Tree.{Said, nothing, name, int, op, chars as of_chars, bytes as of_bytes, SyntaxTree, SyntaxTrees, node, no_parts, with_part, span_of}
+use Rattle.py_base.specs.Tree.{Said, nothing, name, int, op, chars as of_chars, bytes as of_bytes, SyntaxTree, SyntaxTrees, node, no_parts, with_part, kind_of, span_of}
 use Rattle.py_tokens.specs.declared.lines.Token.{Token}
 use Rattle.py_tokens.specs.Ints.{int_of}
 use Rattle.py_tokens.specs.declared.literals.StringValue.{StringValue}
@@ -86,6 +87,7 @@ kind_of_form forms.ComprehensionFor = kinds.ComprehensionFor
 kind_of_form forms.AsyncComprehensionFor = kinds.AsyncComprehensionFor
 kind_of_form forms.ComprehensionIf = kinds.ComprehensionIf
 kind_of_form forms.Targets = kinds.Targets
+kind_of_form forms.IndexTuple = kinds.Entries
 kind_of_form forms.Slice = kinds.Slice
 kind_of_form forms.SliceFrom = kinds.Slice
 kind_of_form forms.Link = kinds.Link
@@ -111,7 +113,7 @@ kind_of_form forms.Del = kinds.Del
 kind_of_form forms.Assert = kinds.Assert
 kind_of_form forms.Import = kinds.Import
 kind_of_form forms.ImportFrom = kinds.ImportFrom
-kind_of_form forms.DottedName = kinds.Attribute
+kind_of_form forms.DottedName = kinds.DottedName
 kind_of_form forms.RelativeSource = kinds.RelativeSource
 kind_of_form forms.Alias = kinds.Alias
 kind_of_form forms.FromAlias = kinds.Alias
@@ -147,6 +149,7 @@ kind_of_form forms.BracketedAsync = kinds.Async
 kind_of_form forms.Decorator = kinds.Decorator
 kind_of_form forms.SignedNumber = kinds.Unary
 kind_of_form forms.ComplexNumber = kinds.Binary
+kind_of_form forms.PatternAttribute = kinds.Attribute
 kind_of_form forms.PatternRound = kinds.Round
 kind_of_form forms.PatternSquare = kinds.Square
 kind_of_form forms.Patterns = kinds.Patterns
@@ -293,7 +296,7 @@ takes_name forms.Name = true
 takes_name forms.TypeName = true
 takes_name forms.Underscore = true
 takes_name forms.Attribute = true
-takes_name forms.DottedName = true
+takes_name forms.PatternAttribute = true
 takes_name _ = false
 
 -- the forms whose word is an operator
@@ -343,6 +346,7 @@ abbrev pub holds_name : Form → Bool
 holds_name forms.StarParameter = true
 holds_name forms.DefStarParameter = true
 holds_name forms.DefDoubleStarParameter = true
+holds_name forms.DottedName = true
 holds_name forms.TypeAlias = true
 holds_name _ = false
 
@@ -388,9 +392,39 @@ abbrev pub listed : List SyntaxTree → SyntaxTrees
 listed [] = no_parts
 listed (t ∷ ts) = with_part t (listed ts)
 
+-- the node of a form over its tokens and the trees of its parts, as they stand
+abbrev pub one_node : Form → List Piece → SyntaxTree
+one_node f xs = node (kind_for f (words_of xs)) (record { from = first_from xs; to = last_to xs }) (said_for f (words_of xs)) (listed (kept f xs))
+
+-- A comprehension alone among arguments is a tree of its own, over what stands in the brackets, these included (6.3.4 and 6.2.8).
+abbrev pub has_arguments : Form → Bool
+has_arguments forms.Call = true
+has_arguments forms.Arguments = true
+has_arguments _ = false
+
+-- how many pieces stand before the brackets
+abbrev pub called : Form → ℕ
+called forms.Call = 1
+called _ = 0
+
+abbrev pub is_clause : NodeKind → Bool
+is_clause kinds.ComprehensionFor = true
+is_clause kinds.AsyncComprehensionFor = true
+is_clause _ = false
+
+abbrev pub is_clause_piece : Piece → Bool
+is_clause_piece (of_word w) = false
+is_clause_piece (of_tree t) = is_clause (kind_of t)
+
+abbrev pub is_comprehension : Form → List Piece → Bool
+is_comprehension f xs = has_arguments f && list_any is_clause_piece xs
+
+abbrev pub bracketed : Form → List Piece → List Piece
+bracketed f xs = take (called f) xs ++ of_tree (one_node forms.Round (drop (called f) xs)) ∷ []
+
 -- the node of a form over its tokens and the trees of its parts
 abbrev pub assembled : Form → List Piece → SyntaxTree
-assembled f xs = node (kind_for f (words_of xs)) (record { from = first_from xs; to = last_to xs }) (said_for f (words_of xs)) (listed (kept f xs))
+assembled f xs = one_node f (if is_comprehension f xs then bracketed f xs else xs)
 
 -- THE TREE OF A READING
 abbrev mutual

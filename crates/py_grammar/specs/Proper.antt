@@ -21,7 +21,7 @@ abbrev pub are_ordered : (NodeKind → ℕ) → (NodeKind → ℕ) → List Node
 are_ordered grade bar [] = true
 are_ordered grade bar (k ∷ ks) = list_all (λ l. nat_lt (grade k) (bar l)) ks && are_ordered grade bar ks
 
--- Arguments: behind `name =` stands no plain argument (and it is no element of a comprehension), behind `**` no `*` either.
+-- Arguments: behind `name =` stands no plain argument, behind `**` no `*` either.
 abbrev pub argument_grade : NodeKind → ℕ
 argument_grade kinds.Keyword = 1
 argument_grade kinds.DoubleStarred = 2
@@ -156,6 +156,11 @@ is_lone_star [] = false
 is_lone_star (k ∷ []) = is_starred k
 is_lone_star (k ∷ l ∷ ks) = false
 
+-- `name = value` is no element of a comprehension
+abbrev pub begins_keyword : List NodeKind → Bool
+begins_keyword (kinds.Keyword ∷ ks) = true
+begins_keyword _ = false
+
 -- what a node asks of the kinds of its parts
 abbrev pub fits : NodeKind → List NodeKind → Bool
 fits kinds.Call ks = are_ordered (grade_for orders.Arguments) (bar_for orders.Arguments) ks
@@ -164,7 +169,7 @@ fits kinds.Lambda ks = parameters_fit (without_last ks)
 fits kinds.Parameters ks = parameters_fit ks
 fits kinds.Curly ks = entries_fit ks
 fits kinds.Starred ks = not (begins_starred ks)
-fits kinds.Round ks = not (is_lone_star ks) && are_ordered (grade_for orders.SequencePatterns) (bar_for orders.SequencePatterns) ks
+fits kinds.Round ks = not (is_lone_star ks) && not (begins_keyword ks) && are_ordered (grade_for orders.SequencePatterns) (bar_for orders.SequencePatterns) ks
 fits kinds.Square ks = are_ordered (grade_for orders.SequencePatterns) (bar_for orders.SequencePatterns) ks
 fits kinds.Patterns ks = are_ordered (grade_for orders.SequencePatterns) (bar_for orders.SequencePatterns) ks
 fits kinds.ClassPattern ks = are_ordered (grade_for orders.ClassPatterns) (bar_for orders.ClassPatterns) ks

@@ -3,9 +3,10 @@ ghost use Rattle.std.specs.Prelude.{◌≡◌, ◌<◌, ◌∷◌, ◌++◌, ◌
 ghost use Rattle.std.specs.List.{list_all, list_any};
 ghost use Rattle.py_grammar.specs.Proper.{begins_imaginary};
 ghost use Rattle.py_base.specs.Tree.{Arena, said, node, tree_of, IsNamed, IsLinked, Grows};
-ghost use Rattle.py_grammar.specs.Meaning.{kept_one, kept, listed, assembled, leaf_of, takes_name, is_name};
+ghost use Rattle.py_grammar.specs.Meaning.{kept_one, kept, listed, one_node, assembled, leaf_of, takes_name, is_name, is_clause, has_arguments, called};
 ghost use Rattle.py_grammar.specs.Added.{AddsAtMost, one_if, unless};
-ghost use Rattle.py_grammar.specs.Found.{IsKnown, AllKnown, AreKnown, piece_at, pieces_at, trees_at, is_part_next, one_assigned_over, assigned_over, parts_proper_over, begins_unreal_over, begins_signed_over, faulty_over, signed_over, unreal_over, proper_over, target_over, colon_over, highest, capped, Extends, item_words, item_ids, found_ids, Keeps, IsNewest};
+ghost use Rattle.py_grammar.specs.Found.{IsKnown, AllKnown, AreKnown, piece_at, pieces_at, trees_at, is_part_next, one_assigned_over, assigned_over, parts_proper_over, begins_unreal_over, begins_signed_over, faulty_over, signed_over, unreal_over, proper_over, target_over, colon_over, highest, capped, Extends, item_words, item_ids, found_ids, is_clause_item, Keeps, IsNewest};
+ghost use Rattle.py_grammar.specs.declared.found.Item.TheVariants as items;
 
 use crate::found::{Found, Item};
 use crate::order::{
@@ -299,7 +300,81 @@ fn kept_parts(
     Ok(parts)
 }
 
-/// Adds the node of a form over its items. `NoMemory` where it could not be stored.
+// Adds the node of a form over its items as they stand.
+fn add_form(alloc: Global, tree: &mut Tree, form: Form, items: &[Item]) -> Result<Found, NoMemory>
+    requires linked { IsLinked tree.old }
+    requires known { AreKnown tree.old items.now }
+    ensures older { Extends tree.old tree.new }
+    ensures node { IfOk result (λ x. IsKnown tree.new x × (x.form ≡ form) × (tree_of tree.new x.id ≡ one_node form (pieces_at tree.old items.now))) }
+    ensures keeps { IfOk result (λ x. Keeps tree.old (item_ids items.now) tree.new (x.id ∷ []) × IsNewest tree.old tree.new x.id) }
+    ensures grows { OnOk result (AddsAtMost (length (item_words items.now) + 1) (one_if (takes_name form) + unless (takes_name form) (length (item_words items.now))) tree.old tree.new) }
+{
+    let word = word_for(alloc, tree, form, items)?;
+    let parts = kept_parts(alloc, tree, form, items)?;
+    let kind = kind_of(form, items);
+    let span = span_over(items);
+    let found = add_node(alloc, tree, form, kind, span, word, parts.as_slice())?;
+    Ok(found)
+}
+
+fn is_clause(kind: NodeKind) -> bool
+    ensures { result ≡ is_clause kind }
+{
+    matches!(
+        kind,
+        NodeKind::ComprehensionFor | NodeKind::AsyncComprehensionFor
+    )
+}
+
+fn is_clause_item(item: &Item) -> bool
+    ensures { result ≡ is_clause_item item.now }
+{
+    match *item {
+        Item::Word(_) => false,
+        Item::Part(found) => is_clause(found.kind),
+    }
+}
+
+fn has_arguments(form: Form) -> bool
+    ensures { result ≡ has_arguments form }
+{
+    matches!(form, Form::Call | Form::Arguments)
+}
+
+fn has_clause(items: &[Item]) -> bool
+    ensures { result ≡ list_any is_clause_item items.now }
+{
+    items.iter().any(|item| is_clause_item(item))
+}
+
+// Whether the items are arguments, and they are a comprehension alone.
+fn is_comprehension(form: Form, items: &[Item]) -> bool
+    ensures { result ≡ (has_arguments form && list_any is_clause_item items.now) }
+{
+    has_arguments(form) && has_clause(items)
+}
+
+// How many items stand before the brackets.
+fn called(form: Form) -> usize
+    ensures { result ≡ called form }
+{
+    match form {
+        Form::Call => 1,
+        _ => 0,
+    }
+}
+
+fn with_part<'a>(alloc: Global, front: &[Item<'a>], part: Found) -> Result<List<Item<'a>>, NoMemory>
+    ensures { IfOk result (λ xs. xs ≡ front.now ++ items.Part part ∷ []) }
+{
+    let mut longer = Vec::new(alloc);
+    longer.extend_from_slice(front)?;
+    longer.push(Item::Part(part))?;
+    Ok(List::from_vec(longer))
+}
+
+/// Adds the node of a form over its items, and before it that of a comprehension which is its only
+/// argument. `NoMemory` where they could not be stored.
 pub fn assemble(
     alloc: Global,
     tree: &mut Tree,
@@ -311,12 +386,14 @@ pub fn assemble(
     ensures older { Extends tree.old tree.new }
     ensures node { IfOk result (λ x. IsKnown tree.new x × (x.form ≡ form) × (tree_of tree.new x.id ≡ assembled form (pieces_at tree.old items.now))) }
     ensures keeps { IfOk result (λ x. Keeps tree.old (item_ids items.now) tree.new (x.id ∷ []) × IsNewest tree.old tree.new x.id) }
-    ensures grows { OnOk result (0 < length (item_words items.now) → AddsAtMost (2 * length (item_words items.now)) (length (item_words items.now)) tree.old tree.new) }
+    ensures grows { OnOk result (0 < length (item_words items.now) → AddsAtMost (3 * length (item_words items.now)) (length (item_words items.now)) tree.old tree.new) }
 {
-    let word = word_for(alloc, tree, form, items)?;
-    let parts = kept_parts(alloc, tree, form, items)?;
-    let kind = kind_of(form, items);
-    let span = span_over(items);
-    let found = add_node(alloc, tree, form, kind, span, word, parts.as_slice())?;
+    if !is_comprehension(form, items) {
+        return add_form(alloc, tree, form, items);
+    }
+    let (front, brackets) = items.split_at(called(form));
+    let part = add_form(alloc, tree, Form::Round, brackets)?;
+    let whole = with_part(alloc, front, part)?;
+    let found = add_form(alloc, tree, form, whole.as_slice())?;
     Ok(found)
 }

@@ -1,7 +1,8 @@
 //! What a node asks of its parts, beside what the table says.
 ghost use Rattle.std.specs.Prelude.{◌≡◌, ◌||◌, not, map};
 ghost use Rattle.std.specs.List.{list_all};
-ghost use Rattle.py_grammar.specs.Proper.{grade_for, bar_for, are_ordered, is_parameter, begins_with_parameter, is_bare_star, stars_fit, is_slash, slash_fits, is_dict_entry, is_neutral, entries_fit, is_starred, begins_starred, is_lone_star, is_unary, is_binary, is_strings, is_case, is_lambda, is_field, encloses, fits, is_reference, holds_targets, parameters_fit, without_last, binding};
+ghost use Rattle.py_base.specs.declared.node.NodeKind.TheVariants as kinds;
+ghost use Rattle.py_grammar.specs.Proper.{grade_for, bar_for, are_ordered, is_parameter, begins_with_parameter, is_bare_star, stars_fit, is_slash, slash_fits, is_dict_entry, is_neutral, entries_fit, is_starred, begins_starred, is_lone_star, begins_keyword, is_unary, is_binary, is_strings, is_case, is_lambda, is_field, encloses, fits, is_reference, holds_targets, parameters_fit, without_last, binding};
 
 use crate::found::Found;
 use py_base::NodeKind;
@@ -219,6 +220,23 @@ fn is_lone_star(parts: &[Found]) -> bool
     }
 }
 
+fn does_begin_with_keyword(parts: &[Found]) -> bool
+    ensures { result ≡ begins_keyword (map (λ x. x.kind) parts.now) }
+{
+    match parts {
+        [] => false,
+        [first, ..] => matches!(first.kind, NodeKind::Keyword),
+    }
+}
+
+fn do_brackets_fit(parts: &[Found]) -> bool
+    ensures { result ≡ fits kinds.Round (map (λ x. x.kind) parts.now) }
+{
+    !is_lone_star(parts)
+        && !does_begin_with_keyword(parts)
+        && is_in_order(Order::SequencePatterns, parts)
+}
+
 /// Whether the kinds of its parts are what a node of a kind asks.
 pub fn does_fit(kind: NodeKind, parts: &[Found]) -> bool
     ensures { result ≡ fits kind (map (λ x. x.kind) parts.now) }
@@ -229,7 +247,7 @@ pub fn does_fit(kind: NodeKind, parts: &[Found]) -> bool
         NodeKind::Parameters => do_parameters_fit(parts),
         NodeKind::Curly => do_entries_fit(parts),
         NodeKind::Starred => !does_begin_starred(parts),
-        NodeKind::Round => !is_lone_star(parts) && is_in_order(Order::SequencePatterns, parts),
+        NodeKind::Round => do_brackets_fit(parts),
         NodeKind::Square | NodeKind::Patterns => is_in_order(Order::SequencePatterns, parts),
         NodeKind::ClassPattern => is_in_order(Order::ClassPatterns, parts),
         _ => true,

@@ -246,7 +246,7 @@ fn whole_from(
     ensures found { IfOk result (λ o. IfSome o (λ id. (id.0 < length tree.new.nodes) × IsTreeOf tokens.now need (tree_of tree.new id))) }
     ensures only { IfOk result (λ o. (t : SyntaxTree) → IsTreeOf tokens.now need t → IsSomeAnd o (λ id. tree_of tree.new id ≡ t)) }
     ensures once { IfOk result (λ o. IfSome o (λ id. AddsOneTree tree.old tree.new id)) }
-    ensures grows { IfOk result (λ o. IfSome o (λ id. AddsAtMost (2 * length tokens.now) (length tokens.now) tree.old tree.new)) }
+    ensures grows { IfOk result (λ o. IfSome o (λ id. AddsAtMost (3 * length tokens.now) (length tokens.now) tree.old tree.new)) }
 {
     let Some((found, rest)) = tree_from(alloc, tree, MOST_HEIGHT, need, tokens)? else {
         return Ok(None);
@@ -261,7 +261,7 @@ fn whole_from(
 /// The one tree that the tokens spell and that meets the need: each part has the level that its
 /// place asks, it is at most 256 high, and it is proper. `None` exactly where there is none;
 /// `NoMemory` where a node or a name could not be stored. After both the tree is as before. What is
-/// added is at most two nodes and one name for each token.
+/// added is at most three nodes and one name for each token.
 ///
 /// Proper says what the rows of the table can't:
 /// - what a comprehension, `for`, `with`, `del` and `=` bind is a name, an attribute, a subscript, `*`
@@ -297,8 +297,8 @@ pub fn read_whole(
     ensures only { IfOk result (λ o. (t : SyntaxTree) → IsTreeOf tokens.now need t → IsSomeAnd o (λ id. tree_of tree.new id ≡ t)) }
     // What was added is this one tree: its root is the newest node, and no node is a part twice.
     ensures once { IfOk result (λ o. IfSome o (λ id. AddsOneTree tree.old tree.new id)) }
-    // Each token adds at most two nodes and one name.
-    ensures grows { AddsAtMost (2 * length tokens.now) (length tokens.now) tree.old tree.new }
+    // Each token adds at most three nodes and one name.
+    ensures grows { AddsAtMost (3 * length tokens.now) (length tokens.now) tree.old tree.new }
     ensures none { IfOk result (λ o. IfNone o (tree.new ≡ tree.old)) }
     ensures err { OnErr result (tree.new ≡ tree.old) }
 {

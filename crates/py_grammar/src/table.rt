@@ -59,7 +59,7 @@ macro_rules! statements {
 // The patterns that are keys of a mapping, behind others.
 macro_rules! pattern_keys {
     ($($form:ident),*) => {
-        forms!($($form,)* Int, Float, Imaginary, Strings, BytesStrings, NoneValue, TrueValue, FalseValue, SignedNumber, ComplexNumber, DottedName)
+        forms!($($form,)* Int, Float, Imaginary, Strings, BytesStrings, NoneValue, TrueValue, FalseValue, SignedNumber, ComplexNumber, PatternAttribute)
     };
 }
 
@@ -146,6 +146,7 @@ pub fn mark_of(need: Need) -> Option<u8>
         Need::CurlyElement => 1,
         Need::Argument => 1,
         Need::AnyArgument => 1,
+        Need::Index => 1,
         Need::IndexEntry => 1,
         Need::Target => 7,
         Need::TargetList => 7,
@@ -176,6 +177,7 @@ fn forms_besides(need: Need) -> &'static [Form]
         Need::Argument => forms!(Keyword),
         Need::UnpackedArgument => forms!(StarArgument, DoubleStarArgument),
         Need::AnyArgument => forms!(Keyword, StarArgument, DoubleStarArgument),
+        Need::Index => forms!(StarArgument, Slice, SliceFrom, IndexTuple),
         Need::IndexEntry => forms!(StarArgument, Slice, SliceFrom),
         Need::Target => forms!(Starred),
         Need::TargetList => forms!(Starred, Targets),
@@ -225,6 +227,7 @@ fn forms_besides(need: Need) -> &'static [Form]
         Need::Number => forms!(Int, Float, Imaginary),
         Need::RealNumber => forms!(Int, Float, SignedNumber),
         Need::ImaginaryNumber => forms!(Imaginary),
+        Need::PatternName => names!(PatternAttribute),
         Need::ClosedPattern => patterns!(),
         Need::Alternatives => patterns!(OrPattern),
         Need::Pattern => patterns!(OrPattern, AsPattern),
@@ -475,12 +478,13 @@ pub fn joints(word: Terminal) -> &'static [Joint]
         Terminal::Compare => &[goes_on!(BitOr, Comparison, Compared)],
         Terminal::OpenRound => &[
             goes_on!(Primary, Call, CallFirst),
-            goes_on!(DottedName, ClassPattern, ClassPatternNext),
+            goes_on!(PatternName, ClassPattern, ClassPatternNext),
         ],
         Terminal::OpenSquare => &[goes_on!(Primary, Subscript, IndexFirst)],
         Terminal::Comma => &[
             goes_on!(Entry, Entries, EntryNext),
             goes_on!(Target, Targets, TargetNext),
+            goes_on!(IndexEntry, IndexTuple, IndexNext),
             goes_on!(PatternEntry, Patterns, PatternsNext),
         ],
         Terminal::Colon => &[
@@ -494,7 +498,8 @@ pub fn joints(word: Terminal) -> &'static [Joint]
         Terminal::Semicolon => &[goes_on!(SimpleStatement, Statements, StatementNext)],
         Terminal::Dot => &[
             goes_on!(Primary, Attribute, LastName),
-            goes_on!(DottedName, DottedName, LastName),
+            goes_on!(Identifier, DottedName, DottedNext),
+            goes_on!(PatternName, PatternAttribute, LastName),
         ],
         Terminal::Assign => &[
             goes_on!(Identifier, Keyword, LastExpression),
@@ -525,8 +530,8 @@ fn edges_of(state: State) -> &'static [Edge]
         State::CallNext => &[word!(CloseRound, Done)],
         State::CallMore => &[word!(Comma, CallNext), word!(CloseRound, Done)],
         State::RoundClauses => &[word!(CloseRound, Done)],
-        State::IndexMore => &[word!(Comma, IndexNext), word!(CloseSquare, Done)],
-        State::IndexNext => &[word!(CloseSquare, Done)],
+        State::IndexClose => &[word!(CloseSquare, Done)],
+        State::IndexMore => &[word!(Comma, IndexNext)],
         State::LambdaNext => &[word!(Colon, LastExpression)],
         State::LambdaMore => &[word!(Comma, LambdaNext), word!(Colon, LastExpression)],
         State::StarParameterName => &[word!(Name, Done)],
@@ -575,6 +580,8 @@ fn edges_of(state: State) -> &'static [Edge]
         State::FromBracketedMore => &[word!(Comma, FromBracketedNext), word!(CloseRound, Done)],
         State::FromBracketedNext => &[word!(CloseRound, Done)],
         State::DotsMore => &[word!(Dot, DotsMore), word!(Ellipsis, DotsMore)],
+        State::DottedNext => &[word!(Name, DottedMore)],
+        State::DottedMore => &[word!(Dot, DottedNext)],
         State::AliasParameters => &[word!(Assign, LastExpression)],
         State::AliasAssign => &[word!(Assign, LastExpression)],
         State::TypeParametersNext => &[word!(CloseSquare, Done)],
@@ -694,7 +701,7 @@ fn expression_places_of(state: State) -> &'static [Place]
         State::CallAfterFirst => &[part!(Clause, RoundClauses)],
         State::CallNext => &[part!(AnyArgument, CallMore)],
         State::RoundClauses => &[part!(FurtherClause, RoundClauses)],
-        State::IndexFirst => &[part!(IndexEntry, IndexMore)],
+        State::IndexFirst => &[part!(Index, IndexClose)],
         State::IndexNext => &[part!(IndexEntry, IndexMore)],
         State::LambdaNext => &[part!(Parameter, LambdaMore)],
         State::RoundFirst => &[
@@ -838,6 +845,8 @@ fn may_end_expression(state: State) -> bool
             | State::TargetMore
             | State::ComparedMore
             | State::LinkIs
+            | State::IndexNext
+            | State::IndexMore
             | State::StarParameterName
             | State::SliceFirst
             | State::SliceSecond
@@ -867,6 +876,7 @@ fn may_end_statement(state: State) -> bool
             | State::ImportMore
             | State::FromMore
             | State::DotsMore
+            | State::DottedMore
     )
 }
 

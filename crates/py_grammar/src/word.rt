@@ -153,6 +153,7 @@ fn plain_kind(form: Form) -> NodeKind
         Form::AsyncComprehensionFor => NodeKind::AsyncComprehensionFor,
         Form::ComprehensionIf => NodeKind::ComprehensionIf,
         Form::Targets => NodeKind::Targets,
+        Form::IndexTuple => NodeKind::Entries,
         Form::Slice => NodeKind::Slice,
         Form::SliceFrom => NodeKind::Slice,
         Form::Link => NodeKind::Link,
@@ -178,7 +179,7 @@ fn plain_kind(form: Form) -> NodeKind
         Form::Assert => NodeKind::Assert,
         Form::Import => NodeKind::Import,
         Form::ImportFrom => NodeKind::ImportFrom,
-        Form::DottedName => NodeKind::Attribute,
+        Form::DottedName => NodeKind::DottedName,
         Form::RelativeSource => NodeKind::RelativeSource,
         Form::Alias => NodeKind::Alias,
         Form::FromAlias => NodeKind::Alias,
@@ -214,6 +215,7 @@ fn plain_kind(form: Form) -> NodeKind
         Form::Decorator => NodeKind::Decorator,
         Form::SignedNumber => NodeKind::Unary,
         Form::ComplexNumber => NodeKind::Binary,
+        Form::PatternAttribute => NodeKind::Attribute,
         Form::PatternRound => NodeKind::Round,
         Form::PatternSquare => NodeKind::Square,
         Form::Patterns => NodeKind::Patterns,
@@ -456,7 +458,7 @@ pub fn is_named_form(form: Form) -> bool
 {
     matches!(
         form,
-        Form::Name | Form::TypeName | Form::Underscore | Form::Attribute | Form::DottedName
+        Form::Name | Form::TypeName | Form::Underscore | Form::Attribute | Form::PatternAttribute
     )
 }
 
@@ -545,6 +547,7 @@ fn does_hold_name(form: Form) -> bool
         Form::StarParameter
             | Form::DefStarParameter
             | Form::DefDoubleStarParameter
+            | Form::DottedName
             | Form::TypeAlias
     )
 }

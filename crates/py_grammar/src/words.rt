@@ -257,6 +257,8 @@ pub enum Form {
     ComprehensionIf,
     /// Targets by commas, without brackets.
     Targets,
+    /// The entries of an index by commas, of which one stands there at least.
+    IndexTuple,
     /// A slice that begins with its first colon.
     Slice,
     /// A slice that begins with its lower bound.
@@ -307,7 +309,7 @@ pub enum Form {
     Import,
     /// `from source import` and names or `*`.
     ImportFrom,
-    /// Names by dots, where no expression stands.
+    /// Names by dots in an import.
     DottedName,
     /// Dots, and a name behind them or none.
     RelativeSource,
@@ -379,6 +381,8 @@ pub enum Form {
     SignedNumber,
     /// A real and an imaginary number in a pattern.
     ComplexNumber,
+    /// Names by dots in a pattern.
+    PatternAttribute,
     /// Round brackets in a pattern.
     PatternRound,
     /// Square brackets in a pattern.
@@ -466,6 +470,8 @@ pub enum Need {
     UnpackedArgument,
     /// A further argument.
     AnyArgument,
+    /// What stands in the brackets of an index.
+    Index,
     /// An entry of an index.
     IndexEntry,
     /// One target.
@@ -498,7 +504,7 @@ pub enum Need {
     AssignedValue,
     /// A name, an attribute or a subscript.
     Reference,
-    /// Names by dots.
+    /// What is imported without `as`: a name, or names by dots.
     DottedName,
     /// Where names are imported from.
     Source,
@@ -536,6 +542,8 @@ pub enum Need {
     RealNumber,
     /// An imaginary number.
     ImaginaryNumber,
+    /// A name in a pattern, or names by dots.
+    PatternName,
     /// A pattern without `|` and `as`.
     ClosedPattern,
     /// A pattern without `as`.
@@ -600,8 +608,9 @@ pub enum State {
     CallMore,
     RoundClauses,
     IndexFirst,
-    IndexMore,
+    IndexClose,
     IndexNext,
+    IndexMore,
     LambdaNext,
     LambdaMore,
     StarParameterName,
@@ -662,6 +671,8 @@ pub enum State {
     FromBracketedMore,
     FromBracketedNext,
     DotsMore,
+    DottedNext,
+    DottedMore,
     AliasParameters,
     AliasAssign,
     TypeParametersFirst,

@@ -19,7 +19,7 @@ use std::alloc::Global;
 /// place asks, targets can be bound, arguments, parameters and patterns stand as they may, and which
 /// is at most 256 high. It reads the tokens whatever the line's fault is: a caller asks for the
 /// fault first. `NoMemory` where a node or a name could not be stored. After both the tree is as
-/// before. What is added is at most two nodes and one name for each token. Time goes by the number of
+/// before. What is added is at most three nodes and one name for each token. Time goes by the number of
 /// tokens.
 ///
 /// Python 3.12 language reference, sections 7 and 8.
@@ -36,8 +36,8 @@ pub fn line_tree(
     ensures only { IfOk result (λ o. (t : SyntaxTree) → IsLineTree line.now.tokens t → IsSomeAnd o (λ id. tree_of tree.new id ≡ t)) }
     // What was added is this one tree: its root is the newest node, and no node is a part twice.
     ensures once { IfOk result (λ o. IfSome o (λ id. AddsOneTree tree.old tree.new id)) }
-    // Each token adds at most two nodes and one name.
-    ensures grows { AddsAtMost (2 * length line.now.tokens) (length line.now.tokens) tree.old tree.new }
+    // Each token adds at most three nodes and one name.
+    ensures grows { AddsAtMost (3 * length line.now.tokens) (length line.now.tokens) tree.old tree.new }
     ensures none { IfOk result (λ o. IfNone o (tree.new ≡ tree.old)) }
     ensures err { OnErr result (tree.new ≡ tree.old) }
 {

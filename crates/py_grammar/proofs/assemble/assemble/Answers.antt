@@ -1,45 +1,54 @@
-use Rattle.std.proofs.Common.{◌∙◌}
-use Rattle.py_grammar.proofs.KnownLemmas.{Extends-trans, AreKnown-later, assembled_is, named-later}
-use Rattle.py_grammar.specs.Found.{item_ids, found_ids}
-use Rattle.py_grammar.proofs.KeepsLemmas.{assembled-keeps}
-use Rattle.py_grammar.specs.Meaning.{takes_name}
-use Rattle.py_grammar.proofs.AddedLemmas.{assembled-adds}
+use Rattle.std.proofs.Common.{◌≡◌, ◌∷◌, [], ◌∙◌, ap, subst, take, drop, length, IfOk, arith}
+use Rattle.std.proofs.lemmas.Result.{on_ok_weaker}
+use Rattle.py_base.specs.Tree.{SyntaxTree, tree_of}
+use Rattle.py_grammar.specs.declared.found.Item.TheVariants as items
+use Rattle.py_grammar.specs.Meaning.{called, takes_name}
+use Rattle.py_grammar.specs.Found.{IsKnown, item_words}
+use Rattle.py_grammar.proofs.KnownLemmas.{AreKnown-append, AreKnown-later, known-take, plainly_is, bracketed_is}
+use Rattle.py_grammar.proofs.KeepsLemmas.{brackets-keep}
+use Rattle.py_grammar.proofs.AddedLemmas.{form-adds, brackets-add, arguments-true}
 use Rattle.py_grammar.proofs.assemble.assemble.Goals as goal
 
-pub kept_parts-requires-clause-linked : goal.kept_parts-requires-clause-linked
-kept_parts-requires-clause-linked c = c.word_for.ensures.older.linked
+pub returns-then-not-is_comprehension-clause-node :
+    goal.returns-then-not-is_comprehension-clause-node
+returns-then-not-is_comprehension-clause-node c =
+    subst (λ (t : SyntaxTree). IfOk c.add_form.result (λ x. IsKnown c.add_form.new.tree x × (x.form ≡ c.args.form) × (tree_of c.add_form.new.tree x.id ≡ t))) (plainly_is c.args.form c.args.tree.now c.args.items.now c.requires.known c.if-not-is_comprehension.ensures) c.add_form.ensures.node
 
-pub kept_parts-requires-clause-known : goal.kept_parts-requires-clause-known
-kept_parts-requires-clause-known c = AreKnown-later _ _ c.args.items.now c.requires.linked c.word_for.ensures.older c.requires.known
+pub returns-then-not-is_comprehension-clause-grows :
+    goal.returns-then-not-is_comprehension-clause-grows
+returns-then-not-is_comprehension-clause-grows c =
+    on_ok_weaker c.add_form.result (λ h some_. form-adds (takes_name c.args.form) c.args.tree.now c.add_form.new.tree (length (item_words c.args.items.now)) h some_) c.add_form.ensures.grows
 
-pub returns-in_err-parts-clause-older : goal.returns-in_err-parts-clause-older
-returns-in_err-parts-clause-older c = Extends-trans _ _ _ c.word_for.ensures.older c.kept_parts.ensures.older
-
-pub add_node-requires-clause-linked : goal.add_node-requires-clause-linked
-add_node-requires-clause-linked c = c.kept_parts.ensures.older.linked
-
-pub add_node-requires-clause-known : goal.add_node-requires-clause-known
-add_node-requires-clause-known c = rw c.as_slice.ensures c.in_ok-parts.ensures.kept.0
-
-pub add_node-requires-clause-named : goal.add_node-requires-clause-named
-add_node-requires-clause-named c = named-later _ _ _ c.kept_parts.ensures.older c.in_ok-word.ensures.said.1
-
-pub returns-in_err-found-clause-older : goal.returns-in_err-found-clause-older
-returns-in_err-found-clause-older c = Extends-trans _ _ _ (Extends-trans _ _ _ c.word_for.ensures.older c.kept_parts.ensures.older) c.add_node.ensures.older
-
-pub returns-clause-older : goal.returns-clause-older
-returns-clause-older c = Extends-trans _ _ _ (Extends-trans _ _ _ c.word_for.ensures.older c.kept_parts.ensures.older) c.add_node.ensures.older
+pub add_form-requires-3-clause-known : goal.add_form-requires-3-clause-known
+add_form-requires-3-clause-known c =
+    let n = called c.args.form in
+    let front : c.split_at.result.0.now ≡ take n c.args.items.now = c.split_at.ensures.front ∙ ap (λ m. take m c.args.items.now) c.called.ensures in
+    let older = AreKnown-later c.args.tree.now c.add_form-2.new.tree (take n c.args.items.now) c.requires.linked c.add_form-2.ensures.older (known-take c.args.tree.now n c.args.items.now c.requires.known) in
+    rw (c.as_slice.ensures, c.in_ok-whole.ensures, front) (AreKnown-append c.add_form-2.new.tree (take n c.args.items.now) (items.Part c.in_ok-part.part ∷ []) older (c.in_ok-part.ensures.node.0, tt))
 
 pub returns-clause-node : goal.returns-clause-node
 returns-clause-node c =
-    let node = rw c.as_slice.ensures at c.in_ok-found.ensures.node in
-    (node.0, node.1, node.2 ∙ assembled_is c.args.tree.now c.word_for.new.tree c.kept_parts.new.tree c.args.form c.args.items.now c.in_ok-word.word c.in_ok-parts.parts c.kind_of-kind.result c.span_over-span.result c.requires.linked c.word_for.ensures.older c.kept_parts.ensures.older c.requires.known c.in_ok-word.ensures.said.0 c.in_ok-word.ensures.said.1 c.in_ok-parts.ensures.kept.1 c.kind_of-kind.ensures c.span_over-span.ensures)
+    let n = called c.args.form in
+    let front : c.split_at.result.0.now ≡ take n c.args.items.now = c.split_at.ensures.front ∙ ap (λ m. take m c.args.items.now) c.called.ensures in
+    let back : c.split_at.result.1.now ≡ drop n c.args.items.now = c.split_at.ensures.back ∙ ap (λ m. drop m c.args.items.now) c.called.ensures in
+    let part = rw back at c.in_ok-part.ensures.node.2 in
+    let node = rw (c.as_slice.ensures, c.in_ok-whole.ensures, front) at c.in_ok-found.ensures.node in
+    (node.0, node.1, node.2 ∙ bracketed_is c.args.form c.args.tree.now c.add_form-2.new.tree c.args.items.now c.in_ok-part.part c.requires.linked c.add_form-2.ensures.older c.requires.known c.if-not-is_comprehension.ensures part)
 
 pub returns-clause-keeps : goal.returns-clause-keeps
 returns-clause-keeps c =
-    let keeps = rw c.as_slice.ensures at c.in_ok-found.ensures.keeps in
-    assembled-keeps c.args.tree.now c.word_for.new.tree c.kept_parts.new.tree c.add_node.new.tree (item_ids c.args.items.now) (found_ids c.in_ok-parts.parts) c.in_ok-found.found.id c.in_ok-word.ensures.same c.kept_parts.ensures.older c.in_ok-parts.ensures.keeps keeps.0 keeps.1
+    let n = called c.args.form in
+    let front : c.split_at.result.0.now ≡ take n c.args.items.now = c.split_at.ensures.front ∙ ap (λ m. take m c.args.items.now) c.called.ensures in
+    let back : c.split_at.result.1.now ≡ drop n c.args.items.now = c.split_at.ensures.back ∙ ap (λ m. drop m c.args.items.now) c.called.ensures in
+    let part = rw back at c.in_ok-part.ensures.keeps in
+    let node = rw (c.as_slice.ensures, c.in_ok-whole.ensures, front) at c.in_ok-found.ensures.keeps in
+    brackets-keep c.args.tree.now c.add_form-2.new.tree c.add_form-3.new.tree n c.args.items.now c.in_ok-part.part c.in_ok-found.found c.requires.known c.add_form-2.ensures.older part.0 node.0 node.1
 
 pub returns-clause-grows : goal.returns-clause-grows
-returns-clause-grows c some =
-    assembled-adds (takes_name c.args.form) c.args.tree.now c.word_for.new.tree c.kept_parts.new.tree c.add_node.new.tree _ c.in_ok-word.ensures.grows c.in_ok-parts.ensures.grows c.in_ok-found.ensures.grows some
+returns-clause-grows c some_ =
+    let n = called c.args.form in
+    let front : c.split_at.result.0.now ≡ take n c.args.items.now = c.split_at.ensures.front ∙ ap (λ m. take m c.args.items.now) c.called.ensures in
+    let back : c.split_at.result.1.now ≡ drop n c.args.items.now = c.split_at.ensures.back ∙ ap (λ m. drop m c.args.items.now) c.called.ensures in
+    let part = rw back at c.in_ok-part.ensures.grows in
+    let node = rw (c.as_slice.ensures, c.in_ok-whole.ensures, front) at c.in_ok-found.ensures.grows in
+    brackets-add c.args.form c.args.tree.now c.add_form-2.new.tree c.add_form-3.new.tree c.args.items.now n c.in_ok-part.part (arguments-true _ _ c.if-not-is_comprehension.ensures) (part.0, omega (arith, part.1)) node some_
