@@ -43,10 +43,10 @@ target_part kinds.Subscript = roles.Value
 target_part k = roles.Target
 
 -- `import a.b` binds `a`, and `import a.b as c` binds `c`
-abbrev pub imported_part : NodeKind → Bool → Role
-imported_part kinds.Attribute last = roles.Imported
-imported_part kinds.Alias last = if last then roles.Target else roles.Hidden
-imported_part k last = roles.Hidden
+abbrev pub imported_part : NodeKind → ℕ → Bool → Role
+imported_part kinds.DottedName at last = if at == 0 then roles.Imported else roles.Hidden
+imported_part kinds.Alias at last = if last then roles.Target else roles.Hidden
+imported_part k at last = roles.Hidden
 
 -- Dotted names, strings, the keys of a mapping, the class of a class pattern and the names of its keywords capture nothing. The parts of
 -- `|` capture the same names, so those of the first part are those of all.
@@ -88,7 +88,7 @@ declared_part k = roles.Declared
 abbrev pub role_of_part : Role → NodeKind → ℕ → Bool → Role
 role_of_part roles.Value k at last = value_part k at last
 role_of_part roles.Target k at last = target_part k
-role_of_part roles.Imported k at last = imported_part k last
+role_of_part roles.Imported k at last = imported_part k at last
 role_of_part roles.Captured k at last = captured_part k at
 role_of_part roles.Hidden k at last = roles.Hidden
 role_of_part roles.Suite k at last = suite_part k last

@@ -82,11 +82,11 @@ fn target_part(kind: NodeKind) -> Role
     }
 }
 
-fn imported_part(kind: NodeKind, last: bool) -> Role
-    ensures { result ≡ imported_part kind last }
+fn imported_part(kind: NodeKind, at: usize, last: bool) -> Role
+    ensures { result ≡ imported_part kind at last }
 {
     match kind {
-        NodeKind::Attribute => Role::Imported,
+        NodeKind::DottedName => hidden_if(at != 0, Role::Imported),
         NodeKind::Alias => hidden_if(!last, Role::Target),
         _ => Role::Hidden,
     }
@@ -162,7 +162,7 @@ pub fn role_of_part(role: Role, kind: NodeKind, at: usize, last: bool) -> Role
     match role {
         Role::Value => value_part(kind, at, last),
         Role::Target => target_part(kind),
-        Role::Imported => imported_part(kind, last),
+        Role::Imported => imported_part(kind, at, last),
         Role::Captured => captured_part(kind, at),
         Role::Hidden => Role::Hidden,
         Role::Suite => suite_part(kind, last),
