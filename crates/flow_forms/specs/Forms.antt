@@ -51,13 +51,9 @@ abbrev pub round_form : List Node → List NodeId → Form
 round_form nodes (p ∷ []) = forms.Group p
 round_form nodes parts = display_form nodes parts
 
--- a comprehension may stand in a call without brackets of its own
 abbrev pub call_form : List Node → List NodeId → Form
 call_form nodes [] = forms.Silent
-call_form nodes (callee ∷ arguments) =
-    if is_comprehension nodes arguments
-    then forms.CallOver callee (first_or callee arguments) (comprehension_clauses_of nodes (drop 1 arguments))
-    else forms.Call callee (running nodes arguments)
+call_form nodes (callee ∷ arguments) = forms.Call callee (running nodes arguments)
 
 -- the default of a parameter, and its name; the name of a type parameter
 abbrev pub default_in : NodeKind → List NodeId → List NodeId
@@ -107,8 +103,9 @@ annotated_form nodes (target ∷ annotation ∷ []) = forms.Steps (running nodes
 annotated_form nodes (target ∷ annotation ∷ value ∷ more) = forms.Steps (value ∷ target ∷ [])
 annotated_form nodes parts = forms.Silent
 
--- the name that an import binds; of a dotted name it is the first, which runs with it
+-- the name that an import binds: of a dotted name it is the first
 abbrev pub imported_in : NodeId → NodeKind → List NodeId → List NodeId
+imported_in p kinds.DottedName parts = take 1 parts
 imported_in p kinds.Alias parts = take 1 (drop 1 parts)
 imported_in p kinds.LastComma parts = []
 imported_in p kind parts = p ∷ []
@@ -117,15 +114,15 @@ abbrev pub imported : List Node → NodeId → List NodeId
 imported nodes p = imported_in p (kind_at nodes p) (parts_at nodes p)
 
 -- what runs of a part of a def, a class or a `type` statement where that stands
-abbrev pub pieces_in : List Node → NodeId → NodeKind → List NodeId → List NodeId
-pieces_in nodes p kinds.Decorator parts = running nodes parts
-pieces_in nodes p kinds.TypeParameters parts = gather (name_of nodes) parts
-pieces_in nodes p kinds.Parameters parts = gather (default_of nodes) parts
-pieces_in nodes p kinds.Arguments parts = if is_comprehension nodes parts then p ∷ [] else running nodes parts
-pieces_in nodes p kind parts = []
+abbrev pub pieces_in : List Node → NodeKind → List NodeId → List NodeId
+pieces_in nodes kinds.Decorator parts = running nodes parts
+pieces_in nodes kinds.TypeParameters parts = gather (name_of nodes) parts
+pieces_in nodes kinds.Parameters parts = gather (default_of nodes) parts
+pieces_in nodes kinds.Arguments parts = running nodes parts
+pieces_in nodes kind parts = []
 
 abbrev pub pieces : List Node → NodeId → List NodeId
-pieces nodes p = pieces_in nodes p (kind_at nodes p) (parts_at nodes p)
+pieces nodes p = pieces_in nodes (kind_at nodes p) (parts_at nodes p)
 
 -- the parameters of a def
 abbrev pub parameters_in : List Node → NodeKind → List NodeId → List NodeId
@@ -367,7 +364,6 @@ abbrev pub form : Arena → NodeKind → List NodeId → Form
 form a kinds.Round parts = round_form a.nodes parts
 form a kinds.Square parts = display_form a.nodes parts
 form a kinds.Curly parts = display_form a.nodes parts
-form a kinds.Arguments parts = display_form a.nodes parts
 form a kinds.Call parts = call_form a.nodes parts
 form a kinds.And parts = pair_form forms.And parts
 form a kinds.Or parts = pair_form forms.Or parts

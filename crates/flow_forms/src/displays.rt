@@ -16,8 +16,8 @@ fn begins_clauses(kind: NodeKind) -> bool
     )
 }
 
-/// Whether parts are an element and then clauses.
-pub fn has_clauses(tree: &Tree, parts: &[NodeId]) -> bool
+// Whether parts are an element and then clauses.
+fn has_clauses(tree: &Tree, parts: &[NodeId]) -> bool
     ensures { result ≡ is_comprehension tree.now.nodes parts.now }
 {
     match parts {
@@ -88,34 +88,14 @@ pub fn form_of_round(alloc: Global, tree: &Tree, parts: &[NodeId]) -> Result<For
     }
 }
 
-// A call with these arguments.
-fn form_with_arguments(
-    alloc: Global,
-    tree: &Tree,
-    callee: NodeId,
-    arguments: &[NodeId],
-) -> Result<Form, NoMemory>
-    ensures { IfOk result (λ f. f ≡ call_form tree.now.nodes (callee ∷ arguments.now)) }
-{
-    if !has_clauses(tree, arguments) {
-        return Ok(Form::Call(callee, running_parts(alloc, tree, arguments)?));
-    }
-    match arguments {
-        [] => Ok(Form::Silent),
-        [element, more @ ..] => Ok(Form::CallOver(
-            callee,
-            *element,
-            clauses_in(alloc, tree, more)?,
-        )),
-    }
-}
-
 /// A call.
 pub fn form_of_call(alloc: Global, tree: &Tree, parts: &[NodeId]) -> Result<Form, NoMemory>
     ensures { IfOk result (λ f. f ≡ call_form tree.now.nodes parts.now) }
 {
     match parts {
         [] => Ok(Form::Silent),
-        [callee, arguments @ ..] => form_with_arguments(alloc, tree, *callee, arguments),
+        [callee, arguments @ ..] => {
+            Ok(Form::Call(*callee, running_parts(alloc, tree, arguments)?))
+        }
     }
 }

@@ -4,7 +4,6 @@ ghost use Rattle.flow_forms.specs.Patterns.{gather};
 ghost use Rattle.flow_forms.specs.Forms.{default_in, default_of, name_in, name_of, lambda_run, lambda_form, pieces_in, pieces, parameters_in, parameters, def_form, class_form, alias_form};
 
 use crate::clauses::{Clause, add_running, first_else};
-use crate::displays::has_clauses;
 use flow_rows::{Form, Function};
 use py_base::{List, NoMemory, NodeId, NodeKind, Tree};
 use std::alloc::Global;
@@ -111,24 +110,16 @@ pub fn form_of_lambda(alloc: Global, tree: &Tree, parts: &[NodeId]) -> Result<Fo
 // Adds what runs of a part of a def, a class or a `type` statement.
 fn add_piece(
     tree: &Tree,
-    node: NodeId,
     kind: NodeKind,
     parts: &[NodeId],
     list: &mut List<NodeId>,
 ) -> Result<(), NoMemory>
-    ensures { OnOk result (list.new ≡ list.old ++ pieces_in tree.now.nodes node kind parts.now) }
+    ensures { OnOk result (list.new ≡ list.old ++ pieces_in tree.now.nodes kind parts.now) }
 {
     match kind {
-        NodeKind::Decorator => add_running(tree, parts, list),
+        NodeKind::Decorator | NodeKind::Arguments => add_running(tree, parts, list),
         NodeKind::TypeParameters => add_names(tree, parts, list),
         NodeKind::Parameters => add_defaults(tree, parts, list),
-        NodeKind::Arguments => {
-            if has_clauses(tree, parts) {
-                list.push(node)
-            } else {
-                add_running(tree, parts, list)
-            }
-        }
         _ => Ok(()),
     }
 }
@@ -138,7 +129,7 @@ fn add_pieces(tree: &Tree, parts: &[NodeId], list: &mut List<NodeId>) -> Result<
     ensures { OnOk result (list.new ≡ list.old ++ gather (pieces tree.now.nodes) parts.now) }
 {
     for part in parts {
-        add_piece(tree, *part, tree.kind(*part), tree.parts(*part), list)?;
+        add_piece(tree, tree.kind(*part), tree.parts(*part), list)?;
     }
     Ok(())
 }

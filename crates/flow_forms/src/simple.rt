@@ -56,6 +56,10 @@ fn add_imported(
     ensures { OnOk result (list.new ≡ list.old ++ imported_in node kind parts.now) }
 {
     match kind {
+        NodeKind::DottedName => match parts {
+            [] => Ok(()),
+            [name, ..] => list.push(*name),
+        },
         NodeKind::Alias => match parts {
             [] => Ok(()),
             [_] => Ok(()),

@@ -225,9 +225,7 @@ fn form_of(alloc: Global, tree: &Tree, kind: NodeKind, parts: &[NodeId]) -> Resu
 {
     match kind {
         NodeKind::Round => form_of_round(alloc, tree, parts),
-        NodeKind::Square | NodeKind::Curly | NodeKind::Arguments => {
-            form_of_display(alloc, tree, parts)
-        }
+        NodeKind::Square | NodeKind::Curly => form_of_display(alloc, tree, parts),
         NodeKind::Call => form_of_call(alloc, tree, parts),
         NodeKind::And => Ok(form_of_and(parts)),
         NodeKind::Or => Ok(form_of_or(parts)),

@@ -16,7 +16,7 @@ use Rattle.node_references.specs.Reference.{Reference}
 use Rattle.flow_graph.specs.declared.binding.Binder.{Binder}
 use Rattle.node_references.specs.References.{reference_of}
 use Rattle.node_references.specs.Marks.{is_among, AreMarks}
-use Rattle.flow_graph.specs.Targets.{bound_nodes, spelled_nodes}
+use Rattle.flow_graph.specs.Targets.{bound_nodes}
 use Rattle.flow_graph.specs.Bindings.{run_nodes, is_read, read, binder_by, binder_at, bound_to, bound_by_binder, binding}
 use Rattle.node_references.specs.Numbers.{flat, IsNumberOf}
 use Rattle.flow_graph.specs.Table.{IsBindingOf}
@@ -43,13 +43,13 @@ not_read : (a : Arena) (n : NodeId) → slice_get a.nodes n.0 ≡ None → is_re
 not_read a n e = rw e refl
 
 -- what is read by marks and numbers is what is read
-pub reads_right : (a : Arena) (os : List Owner) (points : List Point) (list : List Reference) (table : List (Option RefId)) (run bound spelled : List Bool) (reads : List (Option RefId))
+pub reads_right : (a : Arena) (os : List Owner) (points : List Point) (list : List Reference) (table : List (Option RefId)) (run bound : List Bool) (reads : List (Option RefId))
     → AreKnown a os list table → AreMarks (run_nodes points) (length a.nodes) run → AreMarks (bound_nodes a) (length a.nodes) bound
-    → AreMarks (spelled_nodes a) (length a.nodes) spelled → IsTable (λ (i : ℕ). read_by a.nodes run bound spelled table (record { 0 = i })) (length a.nodes) reads
+    → IsTable (λ (i : ℕ). read_by a.nodes run bound table (record { 0 = i })) (length a.nodes) reads
     → (n : NodeId) → IsNumberOf list (flat (slice_get reads n.0)) (read a os points n)
-reads_right a os points list table run bound spelled reads known runs bounds spells rows n = elim (cases_lt n.0 (length a.nodes)) [
+reads_right a os points list table run bound reads known runs bounds rows n = elim (cases_lt n.0 (length a.nodes)) [
   | inl lt ↦
-      let same : (slice_index_or run n.0 false && is_read_by a.nodes bound spelled n) ≡ (is_among (run_nodes points) n && is_read a n) = rw (runs.1 n lt, bounds.1 n lt, spells.1 n lt) refl in
+      let same : (slice_index_or run n.0 false && is_read_by a.nodes bound n) ≡ (is_among (run_nodes points) n && is_read a n) = rw (runs.1 n lt, bounds.1 n lt) refl in
       let at : flat (slice_get reads n.0) ≡ (if is_among (run_nodes points) n && is_read a n then flat (slice_get table n.0) else None) =
       ap flat (rows.1 n.0 lt) ∙ ap (λ (b : Bool). if b then flat (slice_get table n.0) else None) same in
       subst (λ (x : Option RefId). IsNumberOf list x (read a os points n)) (sym at) (go (is_among (run_nodes points) n && is_read a n))

@@ -15,7 +15,7 @@ use Rattle.flow_forms.specs.Forms.{forms_of}
 use Rattle.node_references.specs.Reference.{Reference}
 use Rattle.node_references.specs.References.{reference_of}
 use Rattle.node_references.specs.Marks.{is_among, AreMarks}
-use Rattle.flow_graph.specs.Targets.{bound_nodes, spelled_nodes}
+use Rattle.flow_graph.specs.Targets.{bound_nodes}
 use Rattle.flow_graph.specs.Bindings.{run_nodes, is_read}
 use Rattle.flow_graph.specs.declared.condition.Test.{Test}
 use Rattle.flow_graph.specs.declared.condition.Tests.{Tests}
@@ -157,16 +157,16 @@ abbrev pub AreTested : Arena → List Owner → List Point → List Reference �
 AreTested a os points list tests n =
     IsConditionOf list (condition_of (slice_get tests n.0)) (tested a os points n) × IsConditionOf list (mirrored_of (slice_get tests n.0)) (mirrored a os points n)
 
-pub tests_right : (a : Arena) (os : List Owner) (points : List Point) (list : List Reference) (table : List (Option RefId)) (run bound spelled : List Bool) (subjects : List (Option NodeId)) (tests : List Tested)
+pub tests_right : (a : Arena) (os : List Owner) (points : List Point) (list : List Reference) (table : List (Option RefId)) (run bound : List Bool) (subjects : List (Option NodeId)) (tests : List Tested)
     → AreRunning a os points list table → AreMarks (run_nodes points) (length a.nodes) run → AreMarks (bound_nodes a) (length a.nodes) bound
-    → AreMarks (spelled_nodes a) (length a.nodes) spelled → AreSubjects (forms_of a) (length a.nodes) subjects
-    → IsTable (λ (i : ℕ). test_by a run bound spelled subjects table (record { 0 = i })) (length a.nodes) tests
+    → AreSubjects (forms_of a) (length a.nodes) subjects
+    → IsTable (λ (i : ℕ). test_by a run bound subjects table (record { 0 = i })) (length a.nodes) tests
     → (n : NodeId) → AreTested a os points list tests n
-tests_right a os points list table run bound spelled subjects tests known runs bounds spells subs rows n = elim (cases_lt n.0 (length a.nodes)) [
+tests_right a os points list table run bound subjects tests known runs bounds subs rows n = elim (cases_lt n.0 (length a.nodes)) [
   | inl lt ↦
       let f : NodeId → Option RefId = λ (m : NodeId). flat (slice_get table m.0) in
-      let reads : is_read_by a.nodes bound spelled n ≡ is_read a n = rw (bounds.1 n lt, spells.1 n lt) refl in
-      let same : tests_by a run bound spelled subjects n ≡ tests_at a points n = rw (runs.1 n lt, reads, subs.1 n lt) refl in
+      let reads : is_read_by a.nodes bound n ≡ is_read a n = rw (bounds.1 n lt) refl in
+      let same : tests_by a run bound subjects n ≡ tests_at a points n = rw (runs.1 n lt, reads, subs.1 n lt) refl in
       let at : slice_get tests n.0 ≡ Some (tested_entry table (tests_at a points n)) = rows.1 n.0 lt ∙ ap (λ (t : Tests). Some (tested_entry table t)) same in
       let one : IsConditionOf list (of_test f (tests_at a points n).written) (of_test (running_reference a os points) (tests_at a points n).written) = of_same list f (running_reference a os points) _ known in
       let other : IsConditionOf list (of_test f (tests_at a points n).mirrored) (of_test (running_reference a os points) (tests_at a points n).mirrored) = of_same list f (running_reference a os points) _ known in

@@ -16,7 +16,7 @@ use Rattle.node_references.specs.Reference.{Reference}
 use Rattle.flow_graph.specs.declared.binding.Binder.{Binder}
 use Rattle.node_references.specs.References.{reference_of}
 use Rattle.node_references.specs.Marks.{is_among}
-use Rattle.flow_graph.specs.Targets.{is_place, bound_nodes, spelled_nodes}
+use Rattle.flow_graph.specs.Targets.{is_place, bound_nodes}
 
 -- the nodes that run themselves, each for each of its copies
 abbrev pub run_at : Role → NodeId → List NodeId
@@ -27,9 +27,9 @@ abbrev pub run_nodes : List Point → List NodeId
 run_nodes [] = []
 run_nodes (p ∷ ps) = run_at p.role p.node ++ run_nodes ps
 
--- a name or an attribute that is neither bound nor only spells
+-- a name or an attribute that isn't bound
 abbrev pub is_read : Arena → NodeId → Bool
-is_read a n = is_place (kind_at a.nodes n) && (not (is_among (bound_nodes a) n) && not (is_among (spelled_nodes a) n))
+is_read a n = is_place (kind_at a.nodes n) && not (is_among (bound_nodes a) n)
 
 -- THE REFERENCE THAT IS READ AT A NODE: one that runs
 abbrev pub read : Arena → List Owner → List Point → NodeId → Option Reference

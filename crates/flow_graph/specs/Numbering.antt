@@ -24,13 +24,12 @@ run_of None = []
 run_of (Some p) = run_at p.role p.node
 
 -- what is read at a node, by marks and numbers
-abbrev pub is_read_by : List Node → List Bool → List Bool → NodeId → Bool
-is_read_by nodes bound spelled n =
-    is_place (kind_at nodes n) && (not (slice_index_or bound n.0 false) && not (slice_index_or spelled n.0 false))
+abbrev pub is_read_by : List Node → List Bool → NodeId → Bool
+is_read_by nodes bound n = is_place (kind_at nodes n) && not (slice_index_or bound n.0 false)
 
-abbrev pub read_by : List Node → List Bool → List Bool → List Bool → List (Option RefId) → NodeId → Option RefId
-read_by nodes run bound spelled table n =
-    if slice_index_or run n.0 false && is_read_by nodes bound spelled n then flat (slice_get table n.0) else None
+abbrev pub read_by : List Node → List Bool → List Bool → List (Option RefId) → NodeId → Option RefId
+read_by nodes run bound table n =
+    if slice_index_or run n.0 false && is_read_by nodes bound n then flat (slice_get table n.0) else None
 
 -- what a point binds, by marks and numbers
 abbrev pub with_node : Option RefId → NodeId → Option (RefId × NodeId)
@@ -79,14 +78,14 @@ tested_entry table t = record {
 }
 
 -- the tests of a node that runs, by marks
-abbrev pub tests_by : Arena → List Bool → List Bool → List Bool → List (Option NodeId) → NodeId → Tests
-tests_by a run bound spelled subjects n =
-    if slice_index_or run n.0 false then node_tests a (is_read_by a.nodes bound spelled n) (flat (slice_get subjects n.0)) n (slice_get a.nodes n.0)
+abbrev pub tests_by : Arena → List Bool → List Bool → List (Option NodeId) → NodeId → Tests
+tests_by a run bound subjects n =
+    if slice_index_or run n.0 false then node_tests a (is_read_by a.nodes bound n) (flat (slice_get subjects n.0)) n (slice_get a.nodes n.0)
     else written None
 
 -- what a node tests, by marks and the numbers of nodes that run
-abbrev pub test_by : Arena → List Bool → List Bool → List Bool → List (Option NodeId) → List (Option RefId) → NodeId → Tested
-test_by a run bound spelled subjects table n = tested_entry table (tests_by a run bound spelled subjects n)
+abbrev pub test_by : Arena → List Bool → List Bool → List (Option NodeId) → List (Option RefId) → NodeId → Tested
+test_by a run bound subjects table n = tested_entry table (tests_by a run bound subjects n)
 
 -- a list that has at each number what a function gives for it
 abbrev pub IsTable : {A : Type 0} → (ℕ → A) → ℕ → List A → Type 0

@@ -1,6 +1,6 @@
 -- Which nodes a module binds (Python 3.12 language reference, 4.2.1, "Binding of names"; 7.2 for targets, 7.5 for `del`, 7.11 for
 -- imports, 8.6 for captures): names, and the attributes that are targets.
-use Rattle.std.specs.Prelude.{ℕ, zero, suc, Bool, true, false, List, [], ◌∷◌, ◌++◌, length, if◌then◌else◌}
+use Rattle.std.specs.Prelude.{ℕ, zero, suc, Bool, true, false, List, [], ◌∷◌, ◌++◌, length, take, if◌then◌else◌}
 use Rattle.py_base.specs.declared.ids.NodeId.{NodeId}
 use Rattle.py_base.specs.declared.node.Node.{Node}
 use Rattle.py_base.specs.declared.node.NodeKind.{NodeKind}
@@ -37,24 +37,14 @@ targets zero nodes n = []
 targets (suc left) nodes n =
     if is_place (kind_at nodes n) then n ∷ [] else gather (targets left nodes) (held (kind_at nodes n) (parts_at nodes n))
 
--- `import` binds the first name of a dotted name; one with `as` binds for itself
-abbrev pub first_in : (NodeId → List NodeId) → NodeId → NodeKind → List NodeId → List NodeId
-first_in inner n kinds.Name parts = n ∷ []
-first_in inner n kinds.Attribute (p ∷ more) = inner p
-first_in inner n kind parts = []
+-- `import` binds a name, of a dotted name the first; one with `as` binds for itself
+abbrev pub first_in : NodeId → NodeKind → List NodeId → List NodeId
+first_in n kinds.Name parts = n ∷ []
+first_in n kinds.DottedName parts = take 1 parts
+first_in n kind parts = []
 
-abbrev pub first_name : ℕ → List Node → NodeId → List NodeId
-first_name zero nodes n = []
-first_name (suc left) nodes n = first_in (first_name left nodes) n (kind_at nodes n) (parts_at nodes n)
-
--- the attributes of a dotted name that is imported: they only spell
-abbrev pub dotted_in : (NodeId → List NodeId) → NodeId → NodeKind → List NodeId → List NodeId
-dotted_in inner n kinds.Attribute (p ∷ more) = n ∷ inner p
-dotted_in inner n kind parts = []
-
-abbrev pub dotted : ℕ → List Node → NodeId → List NodeId
-dotted zero nodes n = []
-dotted (suc left) nodes n = dotted_in (dotted left nodes) n (kind_at nodes n) (parts_at nodes n)
+abbrev pub first_name : List Node → NodeId → List NodeId
+first_name nodes n = first_in n (kind_at nodes n) (parts_at nodes n)
 
 -- the targets in the i-th of n parts, where a node of the kind binds it
 abbrev pub bound_part : List Node → NodeKind → ℕ → ℕ → NodeId → List NodeId
@@ -70,7 +60,7 @@ bound_from nodes kind n i (p ∷ more) = bound_part nodes kind n i p ++ bound_fr
 abbrev pub bound_by : List Node → NodeKind → List NodeId → List NodeId
 bound_by nodes kinds.AugmentedAssign parts = []
 bound_by nodes kinds.Case parts = []
-bound_by nodes kinds.Import parts = gather (first_name 256 nodes) parts
+bound_by nodes kinds.Import parts = gather (first_name nodes) parts
 bound_by nodes kind parts = bound_from nodes kind (length parts) 0 parts
 
 -- what a case captures
@@ -90,11 +80,3 @@ captured_of (form ∷ more) = captured_by form ++ captured_of more
 -- ALL NODES THAT ARE BOUND
 abbrev pub bound_nodes : Arena → List NodeId
 bound_nodes a = gather_nodes (λ (node : Node). bound_by a.nodes node.kind node.parts) a.nodes ++ captured_of (forms_of a)
-
-abbrev pub spelled_by : List Node → NodeKind → List NodeId → List NodeId
-spelled_by nodes kinds.Import parts = gather (dotted 256 nodes) parts
-spelled_by nodes kind parts = []
-
--- ALL ATTRIBUTES THAT ONLY SPELL the name of a module
-abbrev pub spelled_nodes : Arena → List NodeId
-spelled_nodes a = gather_nodes (λ (node : Node). spelled_by a.nodes node.kind node.parts) a.nodes

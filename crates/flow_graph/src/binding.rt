@@ -52,10 +52,10 @@ pub(crate) fn run_nodes(alloc: Global, graph: &PointGraph) -> Result<List<NodeId
 }
 
 /// Whether a name or an attribute is read at a node that runs.
-pub(crate) fn is_read(tree: &Tree, bound: &[bool], spelled: &[bool], node: NodeId) -> bool
-    ensures { result ≡ is_read_by tree.now.nodes bound.now spelled.now node }
+pub(crate) fn is_read(tree: &Tree, bound: &[bool], node: NodeId) -> bool
+    ensures { result ≡ is_read_by tree.now.nodes bound.now node }
 {
-    is_place(tree.kind(node)) && !is_marked(bound, node) && !is_marked(spelled, node)
+    is_place(tree.kind(node)) && !is_marked(bound, node)
 }
 
 // The subject of a `match` statement.
@@ -172,7 +172,6 @@ pub(crate) fn bindings(
 pub(crate) struct NodeMarks {
     pub run: List<bool>,
     pub bound: List<bool>,
-    pub spelled: List<bool>,
 }
 
 // What is read at a node.
@@ -182,10 +181,10 @@ fn read_at_node(
     table: &[Option<RefId>],
     node: NodeId,
 ) -> Option<RefId>
-    ensures { result ≡ read_by tree.now.nodes marks.now.run marks.now.bound marks.now.spelled table.now node }
+    ensures { result ≡ read_by tree.now.nodes marks.now.run marks.now.bound table.now node }
 {
     let runs = is_marked(marks.run.as_slice(), node);
-    if runs && is_read(tree, marks.bound.as_slice(), marks.spelled.as_slice(), node) {
+    if runs && is_read(tree, marks.bound.as_slice(), node) {
         at(table, node.0)
     } else {
         None
@@ -199,7 +198,7 @@ pub(crate) fn reads(
     marks: &NodeMarks,
     table: &[Option<RefId>],
 ) -> Result<List<Option<RefId>>, NoMemory>
-    ensures { IfOk result (λ list. IsTable (λ (i : ℕ). read_by tree.now.nodes marks.now.run marks.now.bound marks.now.spelled table.now (record { 0 = i })) (length tree.now.nodes) list) }
+    ensures { IfOk result (λ list. IsTable (λ (i : ℕ). read_by tree.now.nodes marks.now.run marks.now.bound table.now (record { 0 = i })) (length tree.now.nodes) list) }
 {
     let mut list = List::new(alloc);
     for place in 0..tree.node_count() {

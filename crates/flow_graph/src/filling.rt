@@ -2,7 +2,7 @@
 ghost use Rattle.std.specs.Prelude.{◌≡◌, ◌<◌, ◌^◌, length, IfOk};
 ghost use Rattle.node_references.specs.Numbers.{AreNodeReferences};
 ghost use Rattle.flow_forms.specs.Forms.{forms_of};
-ghost use Rattle.flow_graph.specs.Targets.{bound_nodes, spelled_nodes};
+ghost use Rattle.flow_graph.specs.Targets.{bound_nodes};
 ghost use Rattle.flow_graph.specs.Numbering.{AreSubjects};
 ghost use Rattle.flow_graph.specs.Bindings.{run_nodes};
 ghost use Rattle.node_references.specs.Marks.{AreMarks};
@@ -12,7 +12,7 @@ use crate::binding::{NodeMarks, bindings, reads, run_nodes};
 use crate::graphs::{all_graphs, size};
 use crate::subjects::{running, subjects, tests_of};
 use crate::table::References;
-use crate::targets::{bound_nodes, spelled_nodes};
+use crate::targets::bound_nodes;
 use flow_rows::Form;
 use node_references::{NodeReferences, marked};
 use point_graph::PointGraph;
@@ -39,7 +39,7 @@ pub(crate) fn form_facts(alloc: Global, tree: &Tree, forms: &[Form]) -> Result<F
     })
 }
 
-// Marks of nodes that run, that are bound, and that only spell.
+// Marks of nodes that run and that are bound.
 fn marks_of(
     alloc: Global,
     tree: &Tree,
@@ -49,15 +49,12 @@ fn marks_of(
     requires { length graph.now.points < 2 ^ 32 }
     ensures run { IfOk result (λ m. AreMarks (run_nodes graph.now.points) (length tree.now.nodes) m.run) }
     ensures bound { IfOk result (λ m. AreMarks bound.now (length tree.now.nodes) m.bound) }
-    ensures spelled { IfOk result (λ m. AreMarks (spelled_nodes tree.now) (length tree.now.nodes) m.spelled) }
 {
     let count = tree.node_count();
     let run = run_nodes(alloc, graph)?;
-    let spelled = spelled_nodes(alloc, tree)?;
     Ok(NodeMarks {
         run: marked(alloc, run.as_slice(), count)?,
         bound: marked(alloc, bound, count)?,
-        spelled: marked(alloc, spelled.as_slice(), count)?,
     })
 }
 

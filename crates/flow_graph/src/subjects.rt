@@ -99,10 +99,10 @@ pub(crate) fn running(
 
 // The tests of a node that runs.
 fn tests_at(tree: &Tree, marks: &NodeMarks, subjects: &[Option<NodeId>], node: NodeId) -> Tests
-    ensures { result ≡ tests_by tree.now marks.now.run marks.now.bound marks.now.spelled subjects.now node }
+    ensures { result ≡ tests_by tree.now marks.now.run marks.now.bound subjects.now node }
 {
     if is_marked(marks.run.as_slice(), node) {
-        let read = is_read(tree, marks.bound.as_slice(), marks.spelled.as_slice(), node);
+        let read = is_read(tree, marks.bound.as_slice(), node);
         node_tests(tree, read, at(subjects, node.0), node)
     } else {
         Tests {
@@ -120,7 +120,7 @@ pub(crate) fn tests_of(
     subjects: &[Option<NodeId>],
     table: &[Option<RefId>],
 ) -> Result<List<Tested>, NoMemory>
-    ensures { IfOk result (λ list. IsTable (λ (i : ℕ). test_by tree.now marks.now.run marks.now.bound marks.now.spelled subjects.now table.now (record { 0 = i })) (length tree.now.nodes) list) }
+    ensures { IfOk result (λ list. IsTable (λ (i : ℕ). test_by tree.now marks.now.run marks.now.bound subjects.now table.now (record { 0 = i })) (length tree.now.nodes) list) }
 {
     let mut list = List::new(alloc);
     for place in 0..tree.node_count() {

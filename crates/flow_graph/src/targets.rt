@@ -2,7 +2,7 @@
 ghost use Rattle.std.specs.Prelude.{◌≡◌, ◌-◌, [], ◌∷◌, ◌++◌, IfOk, OnOk, length};
 ghost use Rattle.flow_forms.specs.Forms.{forms_of};
 ghost use Rattle.flow_forms.specs.Patterns.{gather};
-ghost use Rattle.flow_graph.specs.Targets.{is_place, holds_targets, held, targets, first_name, dotted, bound_part, bound_from, bound_by, captured_by, captured_of, bound_nodes, spelled_by, spelled_nodes};
+ghost use Rattle.flow_graph.specs.Targets.{is_place, holds_targets, held, targets, first_in, first_name, bound_part, bound_from, bound_by, captured_by, captured_of, bound_nodes};
 
 use flow_forms::TREE_HEIGHT;
 use flow_rows::Form;
@@ -59,37 +59,18 @@ fn add_targets(
     Ok(())
 }
 
-// Adds the first name of a dotted name, down to a depth.
+// Adds the name that a part of an `import` binds.
 fn add_first_name(
-    tree: &Tree,
     node: NodeId,
-    left: u32,
+    kind: NodeKind,
+    parts: &[NodeId],
     list: &mut List<NodeId>,
 ) -> Result<(), NoMemory>
-    ensures { OnOk result (list.new ≡ list.old ++ first_name left tree.now.nodes node) }
+    ensures { OnOk result (list.new ≡ list.old ++ first_in node kind parts.now) }
 {
-    if left == 0 {
-        return Ok(());
-    }
-    match (tree.kind(node), tree.parts(node)) {
+    match (kind, parts) {
         (NodeKind::Name, _) => list.push(node),
-        (NodeKind::Attribute, [part, ..]) => add_first_name(tree, *part, left - 1, list),
-        _ => Ok(()),
-    }
-}
-
-// Adds the attributes of a dotted name, down to a depth. After `NoMemory` some of them may stand.
-fn add_dotted(tree: &Tree, node: NodeId, left: u32, list: &mut List<NodeId>) -> Result<(), NoMemory>
-    ensures { OnOk result (list.new ≡ list.old ++ dotted left tree.now.nodes node) }
-{
-    if left == 0 {
-        return Ok(());
-    }
-    match (tree.kind(node), tree.parts(node)) {
-        (NodeKind::Attribute, [part, ..]) => {
-            list.push(node)?;
-            add_dotted(tree, *part, left - 1, list)
-        }
+        (NodeKind::DottedName, [name, ..]) => list.push(*name),
         _ => Ok(()),
     }
 }
@@ -128,19 +109,10 @@ fn add_bound_parts(
 }
 
 fn add_first_names(tree: &Tree, parts: &[NodeId], list: &mut List<NodeId>) -> Result<(), NoMemory>
-    ensures { OnOk result (list.new ≡ list.old ++ gather (first_name 256 tree.now.nodes) parts.now) }
+    ensures { OnOk result (list.new ≡ list.old ++ gather (first_name tree.now.nodes) parts.now) }
 {
     for part in parts {
-        add_first_name(tree, *part, TREE_HEIGHT, list)?;
-    }
-    Ok(())
-}
-
-fn add_all_dotted(tree: &Tree, parts: &[NodeId], list: &mut List<NodeId>) -> Result<(), NoMemory>
-    ensures { OnOk result (list.new ≡ list.old ++ gather (dotted 256 tree.now.nodes) parts.now) }
-{
-    for part in parts {
-        add_dotted(tree, *part, TREE_HEIGHT, list)?;
+        add_first_name(*part, tree.kind(*part), tree.parts(*part), list)?;
     }
     Ok(())
 }
@@ -158,21 +130,6 @@ fn add_bound(
         NodeKind::AugmentedAssign | NodeKind::Case => Ok(()),
         NodeKind::Import => add_first_names(tree, parts, list),
         _ => add_bound_parts(tree, kind, parts, list),
-    }
-}
-
-// Adds what only spells in a node of this kind.
-fn add_spelled(
-    tree: &Tree,
-    kind: NodeKind,
-    parts: &[NodeId],
-    list: &mut List<NodeId>,
-) -> Result<(), NoMemory>
-    ensures { OnOk result (list.new ≡ list.old ++ spelled_by tree.now.nodes kind parts.now) }
-{
-    match kind {
-        NodeKind::Import => add_all_dotted(tree, parts, list),
-        _ => Ok(()),
     }
 }
 
@@ -221,17 +178,5 @@ pub(crate) fn bound_nodes(
         add_bound(tree, node.kind, node.parts.as_slice(), &mut list)?;
     }
     add_all_captured(forms, &mut list)?;
-    Ok(list)
-}
-
-/// All attributes that only spell the name of a module. `NoMemory` where they could not be stored.
-pub(crate) fn spelled_nodes(alloc: Global, tree: &Tree) -> Result<List<NodeId>, NoMemory>
-    ensures { IfOk result (λ list. list ≡ spelled_nodes tree.now) }
-{
-    let mut list = List::new(alloc);
-    for place in 0..tree.node_count() {
-        let node = tree.node(NodeId(place as u32));
-        add_spelled(tree, node.kind, node.parts.as_slice(), &mut list)?;
-    }
     Ok(list)
 }

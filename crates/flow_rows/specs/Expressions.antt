@@ -23,7 +23,7 @@ use Rattle.flow_rows.specs.declared.form.Choice.{Choice}
 use Rattle.flow_rows.specs.declared.form.Function.{Function}
 use Rattle.flow_rows.specs.declared.form.ComprehensionClause.{ComprehensionClause}
 use Rattle.flow_rows.specs.declared.form.ComprehensionClause.TheVariants as clauses
-use Rattle.flow_rows.specs.Points.{own, again, behind, start, edge}
+use Rattle.flow_rows.specs.Points.{own, again, start, edge}
 use Rattle.flow_rows.specs.Routes.{exit}
 use Rattle.flow_rows.specs.declared.ends.Ends.{Ends}
 use Rattle.flow_rows.specs.Ends.{first_of, last_of}
@@ -112,14 +112,6 @@ comprehension_row t n element clauses c m = record {
   arrows = loop_arrows t c element None (own n c) clauses;
   exits = finish n c m;
   kids = loop_kids c element (own n c) clauses;
-}
-
--- the comprehension, which has no node of its own, ends at the label behind the form; from there the call
-abbrev pub call_over_row : List Ends → NodeId → NodeId → NodeId → List ComprehensionClause → ℕ → Mode → Row
-call_over_row t n callee element clauses c m = record {
-  arrows = edge (behind n c) (own n c) (kinds.Call n) ∷ loop_arrows t c element (Some (last_of t callee c)) (behind n c) clauses;
-  exits = finish n c m ++ exit channels.Raise (behind n c) Handler ∷ [];
-  kids = plain_kid c callee ∷ loop_kids c element (behind n c) clauses;
 }
 
 -- a def or a lambda where it stands: what runs there in order, then the node itself; the edge to its start stands between two graphs,

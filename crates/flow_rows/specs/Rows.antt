@@ -8,7 +8,7 @@ use Rattle.flow_rows.specs.declared.form.Form.TheVariants as forms
 use Rattle.flow_rows.specs.declared.choices.Operation.TheVariants as operations
 use Rattle.flow_rows.specs.declared.ends.Ends.{Ends}
 use Rattle.flow_rows.specs.Paths.{empty}
-use Rattle.flow_rows.specs.Expressions.{steps_row, sequence_row, call_row, call_over_row, operation_row, group_row, choice_row, comprehension_row, function_row, body_row}
+use Rattle.flow_rows.specs.Expressions.{steps_row, sequence_row, call_row, operation_row, group_row, choice_row, comprehension_row, function_row, body_row}
 use Rattle.flow_rows.specs.Statements.{jump_row, assert_row, branches_row, while_row, for_row, try_row, match_row, case_row}
 
 -- a node where it stands
@@ -17,7 +17,6 @@ row t n forms.Silent c m = empty
 row t n (forms.Steps parts) c m = steps_row t n parts c m
 row t n (forms.Sequence parts) c m = sequence_row t parts c
 row t n (forms.Call callee arguments) c m = call_row t n callee arguments c m
-row t n (forms.CallOver callee element clauses) c m = call_over_row t n callee element clauses c m
 row t n (forms.And a b) c m = operation_row t n (operations.And a b) c m
 row t n (forms.Or a b) c m = operation_row t n (operations.Or a b) c m
 row t n (forms.Not a) c m = operation_row t n (operations.Not a) c m

@@ -1,13 +1,14 @@
 //! The rows of comprehensions.
 ghost use Rattle.std.specs.Prelude.{◌≡◌, ℕ, [], ◌∷◌, ◌++◌, IfOk, OnOk, Option, None, Some};
+ghost use Rattle.flow_rows.specs.declared.edge.EdgeKind.{EdgeKind};
 ghost use Rattle.flow_rows.specs.Points.{edge, again};
 ghost use Rattle.flow_rows.specs.Ends.{first_of, last_of};
 ghost use Rattle.flow_rows.specs.Paths.{plain_kid, test_kid};
-ghost use Rattle.flow_rows.specs.Expressions.{entered, loop_arrows, loop_kids, comprehension_row, call_over_row};
+ghost use Rattle.flow_rows.specs.Expressions.{entered, loop_arrows, loop_kids, comprehension_row};
 
 use crate::ends::{Ends, first, last};
 use crate::path::{finished, plain, test, whole};
-use crate::{Channel, ComprehensionClause, Dest, Edge, EdgeKind, Exit, Kid, Mode, Point, Row};
+use crate::{ComprehensionClause, Dest, Edge, Kid, Mode, Point, Row};
 use py_base::{List, NoMemory, NodeId};
 use std::alloc::Global;
 
@@ -100,7 +101,7 @@ fn add_parts(
     kids.push(whole(element, copy))
 }
 
-/// A comprehension in brackets of its own.
+/// A comprehension.
 pub fn row_of_comprehension(
     alloc: Global,
     ends: &[Ends],
@@ -120,44 +121,6 @@ pub fn row_of_comprehension(
     Ok(Row {
         arrows,
         exits: finished(alloc, node, copy, mode)?,
-        kids,
-    })
-}
-
-/// A call whose one argument is a comprehension.
-pub fn row_of_call_over(
-    alloc: Global,
-    ends: &[Ends],
-    node: NodeId,
-    callee: NodeId,
-    element: NodeId,
-    clauses: &[ComprehensionClause],
-    copy: u32,
-    mode: Mode,
-) -> Result<Row, NoMemory>
-    ensures { IfOk result (λ row. row ≡ call_over_row ends.now node callee element clauses.now copy mode) }
-{
-    let behind = Point::behind(node, copy);
-    let mut arrows = List::from_vec(vec![in alloc;
-        Edge {
-            from: behind,
-            to: Point::own(node, copy),
-            kind: EdgeKind::Call(node)
-        },
-    ]?);
-    let before = Some(last(ends, callee, copy));
-    add_loops(ends, copy, element, before, behind, clauses, &mut arrows)?;
-    let mut kids = List::from_vec(vec![in alloc; whole(callee, copy)]?);
-    add_parts(copy, element, behind, clauses, &mut kids)?;
-    let mut exits = finished(alloc, node, copy, mode)?;
-    exits.push(Exit {
-        channel: Channel::Raise,
-        from: behind,
-        kind: EdgeKind::Handler,
-    })?;
-    Ok(Row {
-        arrows,
-        exits,
         kids,
     })
 }

@@ -17,8 +17,6 @@ pub enum Form {
     Sequence(List<NodeId>),
     /// A call: callee, arguments, the call.
     Call(NodeId, List<NodeId>),
-    /// A call whose one argument is a comprehension without brackets: callee, element, clauses.
-    CallOver(NodeId, NodeId, List<ComprehensionClause>),
     /// `left and right`.
     And(NodeId, NodeId),
     /// `left or right`.

@@ -4,7 +4,7 @@ ghost use Rattle.flow_rows.specs.Expressions.{steps_row, sequence_row, call_row,
 ghost use Rattle.flow_rows.specs.Rows.{row, graph_row};
 
 use crate::choices::{Operation, row_of_choice, row_of_group, row_of_operation};
-use crate::comprehensions::{row_of_call_over, row_of_comprehension};
+use crate::comprehensions::row_of_comprehension;
 use crate::ends::{Ends, last};
 use crate::handlers::row_of_try;
 use crate::matching::{row_of_case, row_of_match};
@@ -163,10 +163,6 @@ pub fn row_of(
         Form::Sequence(parts) => row_of_sequence(alloc, ends, parts.as_slice(), copy),
         Form::Call(callee, arguments) => {
             row_of_call(alloc, ends, node, *callee, arguments.as_slice(), copy, mode)
-        }
-        Form::CallOver(callee, element, clauses) => {
-            let clauses = clauses.as_slice();
-            row_of_call_over(alloc, ends, node, *callee, *element, clauses, copy, mode)
         }
         Form::And(a, b) => {
             row_of_operation(alloc, ends, node, Operation::And(*a, *b), copy, mode)

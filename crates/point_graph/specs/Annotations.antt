@@ -1,6 +1,6 @@
 -- The forms in which the nodes of a tree run, where calls of `cast` are known: its first argument is an annotation and doesn't run
 -- (Python 3.12 language reference, section 6.3.4, for calls; library reference, `typing.cast`).
-use Rattle.std.specs.Prelude.{Bool, true, false, List, [], ◌∷◌, map, slice_index_or, ◌&&◌, if◌then◌else◌}
+use Rattle.std.specs.Prelude.{Bool, true, false, List, ◌∷◌, map, slice_index_or, ◌&&◌, if◌then◌else◌}
 use Rattle.py_base.specs.declared.ids.NodeId.{NodeId}
 use Rattle.py_base.specs.declared.node.Node.{Node}
 use Rattle.py_base.specs.declared.node.NodeKind.{NodeKind}
@@ -22,12 +22,10 @@ is_plain kind = true
 abbrev pub is_marked : List Bool → NodeId → Bool
 is_marked casts n = slice_index_or casts n.0 false
 
--- the form of a node without its annotation, if it is a call of `cast`; a comprehension may be the only argument
+-- the form of a node without its annotation, if it is a call of `cast`
 abbrev pub without_annotation : List Node → List Bool → Form → Form
 without_annotation nodes casts (forms.Call callee (p ∷ more)) =
     if is_marked casts callee && is_plain (kind_at nodes p) then forms.Call callee more else forms.Call callee (p ∷ more)
-without_annotation nodes casts (forms.CallOver callee element clauses) =
-    if is_marked casts callee then forms.Call callee [] else forms.CallOver callee element clauses
 without_annotation nodes casts form = form
 
 -- THE FORMS IN WHICH THE NODES RUN, in the order of their numbers

@@ -64,13 +64,6 @@ fn changed(
         Form::Call(callee, arguments) => {
             call_without(alloc, tree, casts, *callee, arguments.as_slice())
         }
-        Form::CallOver(callee, _, _) => {
-            if is_marked(casts, *callee) {
-                Ok(Some(Form::Call(*callee, List::new(alloc))))
-            } else {
-                Ok(None)
-            }
-        }
         _ => Ok(None),
     }
 }
