@@ -9,9 +9,8 @@ use Rattle.py_base.specs.Nodes.{kind_at, parts_at}
 use Rattle.flow_forms.specs.declared.clauses.Clause.{Clause}
 
 -- what stands among parts and doesn't run: commas, operators and colons, marks among parameters, annotations of results, what an
--- import names as its source, the suite of a header, which is read with its header, and faulty lines
+-- import names as its source, and the suite of a header, which is read with its header
 abbrev pub is_silent : NodeKind → Bool
-is_silent kinds.Fault = true
 is_silent kinds.LastComma = true
 is_silent kinds.Link = true
 is_silent kinds.Colon = true
@@ -63,7 +62,7 @@ clause_of nodes header behind = record {
   body = body_of nodes (last_or header (parts_at nodes header)) behind;
 }
 
--- decorators and blocks are no headers
+-- decorators, blocks and error lines between clauses are no headers
 abbrev pub is_header : NodeKind → Bool
 is_header kinds.Decorator = false
 is_header kinds.Block = false

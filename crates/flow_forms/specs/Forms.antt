@@ -1,6 +1,6 @@
 -- The form in which each node of a tree runs (Python 3.12 language reference, sections 6 to 8): which of its parts run, in which order,
 -- and what each is to it. Annotations, bounds of type parameters and the values of `type` statements don't run.
-use Rattle.std.specs.Prelude.{ℕ, Bool, true, false, List, [], ◌∷◌, ◌++◌, Option, None, Some, drop, take, map, if◌then◌else◌, ◌||◌}
+use Rattle.std.specs.Prelude.{ℕ, Bool, true, false, List, [], ◌∷◌, ◌++◌, Option, None, Some, drop, take, map, filter, if◌then◌else◌, ◌||◌}
 use Rattle.py_base.specs.declared.ids.NodeId.{NodeId}
 use Rattle.py_base.specs.declared.node.Node.{Node}
 use Rattle.py_base.specs.declared.node.NodeKind.{NodeKind}
@@ -226,12 +226,23 @@ abbrev pub with_form : List Clause → Form
 with_form [] = forms.Silent
 with_form (clause ∷ more) = forms.Steps (clause.parts ++ clause.body ∷ [])
 
--- the subject, and the cases, which are the parts of the block behind the header
+abbrev pub is_case : NodeKind → Bool
+is_case kinds.CaseStatement = true
+is_case kind = false
+
+abbrev pub is_case_at : List Node → NodeId → Bool
+is_case_at nodes n = is_case (kind_at nodes n)
+
+-- the cases among the parts of a block; beside them it has error lines alone
+abbrev pub cases_among : List Node → List NodeId → List NodeId
+cases_among nodes parts = filter (is_case_at nodes) parts
+
+-- the subject, and the cases in the block behind the header
 abbrev pub match_form : List Node → List Clause → Form
 match_form nodes [] = forms.Silent
 match_form nodes (clause ∷ more) = forms.Match (record {
   subject = first_or clause.header clause.parts;
-  cases = running nodes (parts_at nodes clause.body);
+  cases = cases_among nodes (parts_at nodes clause.body);
 })
 
 -- the pattern's expressions and captures, the guard and the body
@@ -341,13 +352,14 @@ compound_form a kinds.MatchStatement parts = form_with a kinds.MatchStatement pa
 compound_form a kinds.CaseStatement parts = form_with a kinds.CaseStatement parts (clauses_of a.nodes parts)
 compound_form a kind parts = plain_form a.nodes kind parts
 
--- simple statements and modules
+-- simple statements and modules; an error line is passed, and nothing in it runs
 abbrev pub statement_form : Arena → NodeKind → List NodeId → Form
 statement_form a kinds.Assign parts = assign_form parts
 statement_form a kinds.AnnotatedAssign parts = annotated_form a.nodes parts
 statement_form a kinds.Global parts = forms.Steps []
 statement_form a kinds.Nonlocal parts = forms.Steps []
 statement_form a kinds.ImportAll parts = forms.Steps []
+statement_form a kinds.Fault parts = forms.Steps []
 statement_form a kinds.Import parts = forms.Steps (gather (imported a.nodes) parts)
 statement_form a kinds.ImportFrom parts = forms.Steps (gather (imported a.nodes) (drop 1 parts))
 statement_form a kinds.TypeAlias parts = alias_form a.nodes parts

@@ -21,8 +21,7 @@ fn is_silent(kind: NodeKind) -> bool
 {
     matches!(
         kind,
-        NodeKind::Fault
-            | NodeKind::LastComma
+        NodeKind::LastComma
             | NodeKind::Link
             | NodeKind::Colon
             | NodeKind::Slash

@@ -1,9 +1,9 @@
 //! The forms of compound statements, by their clauses.
 ghost use Rattle.std.specs.Prelude.{◌≡◌, [], ◌∷◌, ◌++◌, IfOk, OnOk, drop, map};
-ghost use Rattle.flow_forms.specs.Forms.{test_of, branch_of, if_form, else_or, else_of, finally_or, finally_of, while_form, for_form, handler_of, handler_in, handlers_of, try_form, with_form, match_form, case_form};
+ghost use Rattle.flow_forms.specs.Forms.{test_of, branch_of, if_form, else_or, else_of, finally_or, finally_of, while_form, for_form, handler_of, handler_in, handlers_of, try_form, with_form, is_case, cases_among, match_form, case_form};
 ghost use Rattle.flow_forms.specs.Patterns.{captures, values};
 
-use crate::clauses::{Clause, add_running, first_else, running_parts, second_else};
+use crate::clauses::{Clause, first_else, second_else};
 use crate::patterns::{TREE_HEIGHT, add_captures, add_values};
 use flow_rows::{Branch, CaseForm, ForForm, Form, Handler, MatchForm, TryForm, WhileForm};
 use py_base::{List, NoMemory, NodeId, NodeKind, Tree};
@@ -168,6 +168,25 @@ pub fn form_of_with(alloc: Global, clauses: &[Clause]) -> Result<Form, NoMemory>
     }
 }
 
+fn is_a_case(kind: NodeKind) -> bool
+    ensures { result ≡ is_case kind }
+{
+    matches!(kind, NodeKind::CaseStatement)
+}
+
+// The cases among the parts of a block.
+fn cases_in(alloc: Global, tree: &Tree, parts: &[NodeId]) -> Result<List<NodeId>, NoMemory>
+    ensures { IfOk result (λ cases. cases ≡ cases_among tree.now.nodes parts.now) }
+{
+    let mut cases = List::new(alloc);
+    for part in parts {
+        if is_a_case(tree.kind(*part)) {
+            cases.push(*part)?;
+        }
+    }
+    Ok(cases)
+}
+
 /// A `match` statement.
 pub fn form_of_match(alloc: Global, tree: &Tree, clauses: &[Clause]) -> Result<Form, NoMemory>
     ensures { IfOk result (λ f. f ≡ match_form tree.now.nodes clauses.now) }
@@ -176,7 +195,7 @@ pub fn form_of_match(alloc: Global, tree: &Tree, clauses: &[Clause]) -> Result<F
         [] => Ok(Form::Silent),
         [clause, ..] => Ok(Form::Match(MatchForm {
             subject: first_else(clause.header, clause.parts.as_slice()),
-            cases: running_parts(alloc, tree, tree.parts(clause.body))?,
+            cases: cases_in(alloc, tree, tree.parts(clause.body))?,
         })),
     }
 }

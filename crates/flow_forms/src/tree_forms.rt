@@ -203,7 +203,7 @@ fn form_of_statement(
     match kind {
         NodeKind::Assign => form_of_assign(alloc, parts),
         NodeKind::AnnotatedAssign => form_of_annotated(alloc, tree, parts),
-        NodeKind::Global | NodeKind::Nonlocal | NodeKind::ImportAll => {
+        NodeKind::Global | NodeKind::Nonlocal | NodeKind::ImportAll | NodeKind::Fault => {
             Ok(Form::Steps(List::new(alloc)))
         }
         NodeKind::Import => form_of_import(alloc, tree, parts),
