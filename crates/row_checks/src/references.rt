@@ -38,8 +38,14 @@ fn show_reference(out: &mut String, flow: &Flow, id: RefId) -> Result<(), AllocE
     show_names(out, &flow.named.tree, names)
 }
 
-fn reference_text(alloc: Global, flow: &Flow, id: RefId) -> Result<String, AllocError> {
-    let mut out = String::new(alloc);
+// A reference behind other words.
+fn reference_text(
+    alloc: Global,
+    flow: &Flow,
+    words: &str,
+    id: RefId,
+) -> Result<String, AllocError> {
+    let mut out = String::from_str(alloc, words)?;
     show_reference(&mut out, flow, id)?;
     Ok(out)
 }
@@ -79,12 +85,15 @@ pub fn case_facts(alloc: Global, flow: &Flow) -> Result<Vec<String>, NoMemory> {
     Ok(facts)
 }
 
-// What the last statement tests, which stands before the module.
+// What the last statement tests, which stands before the module, and what it tests beside that.
 fn tested_in(alloc: Global, flow: &Flow) -> Result<Vec<String>, NoMemory> {
-    let node = (flow.named.tree.node_count() as u32).saturating_sub(2);
+    let node = NodeId((flow.named.tree.node_count() as u32).saturating_sub(2));
     let mut facts = Vec::new(alloc);
-    if let Some(id) = flow.graph.tested(NodeId(node)) {
-        facts.push(reference_text(alloc, flow, id)?)?;
+    if let Some(id) = flow.graph.tested(node) {
+        facts.push(reference_text(alloc, flow, "", id)?)?;
+    }
+    if let Some((id, _)) = flow.graph.mirrored(node) {
+        facts.push(reference_text(alloc, flow, "mirrored ", id)?)?;
     }
     Ok(facts)
 }
