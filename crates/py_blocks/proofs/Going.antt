@@ -6,8 +6,8 @@ use Rattle.std.proofs.lemmas.Bool.{eqb-true, le-ltb, not-false, or_parts, and_pa
 use Rattle.py_blocks.specs.declared.line.Line.{Line}
 use Rattle.py_blocks.specs.Lines.{is_error, block_column, error_line}
 use Rattle.py_blocks.specs.declared.setting.Setting.{Setting}
-use Rattle.py_blocks.specs.Rules.{is_decorator, is_decorated, around, is_faulty, opens_nothing, decorates_nothing}
-use Rattle.py_blocks.specs.Settings.{settings_of, around_by}
+use Rattle.py_blocks.specs.Rules.{is_decorator, is_decorated, is_faulty, opens_nothing, decorates_nothing}
+use Rattle.py_blocks.specs.Settings.{setting_around, settings_of, around_by}
 use Rattle.py_blocks.specs.declared.stage.Stage.{Stage}
 use Rattle.py_blocks.specs.Stages.{stages_of}
 use Rattle.py_blocks.specs.Settling.{onto, Settles}
@@ -83,8 +83,8 @@ pub fine-noted : (old new behind : List Line) (notes more : List Setting) (x : L
 fine-noted old new behind notes more x note r f k n is m =
     let ys = reverse old in
     let now : reverse new ≡ x ∷ ys = ap reverse n ∙ reverse-append old (x ∷ []) in
-    let one : note ≡ around ys x.column = is ∙ ap (λ l. around_by ys l x) k ∙ around-right ys x (fine-aligned ys x behind f r) in
-    let left : reverse more ≡ around ys x.column ∷ settings_of ys = ap reverse m ∙ reverse-append notes (note ∷ []) ∙ ap (λ b. b ∷ reverse notes) one ∙ ap (λ l. around ys x.column ∷ l) k in
+    let one : note ≡ setting_around ys x.column = is ∙ ap (λ l. around_by ys l x) k ∙ around-right ys x (fine-aligned ys x behind f r) in
+    let left : reverse more ≡ setting_around ys x.column ∷ settings_of ys = ap reverse m ∙ reverse-append notes (note ∷ []) ∙ ap (λ b. b ∷ reverse notes) one ∙ ap (λ l. setting_around ys x.column ∷ l) k in
     left ∙ sym (ap settings_of now)
 
 -- ---- the pass

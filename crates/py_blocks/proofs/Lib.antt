@@ -11,6 +11,7 @@ pub mod Keeping
 pub mod Passing
 pub mod Tracing
 pub mod Matching
+pub mod Around
 pub mod Undecorating
 pub mod Going
 pub mod Lawful

@@ -7,17 +7,17 @@ use Rattle.py_blocks.specs.declared.line.LineKind.{LineKind}
 use Rattle.py_blocks.specs.declared.line.LineKind.TheVariants as kinds
 use Rattle.py_blocks.specs.Lines.{opens_one, nearest, block_column, error_line}
 use Rattle.py_blocks.specs.declared.setting.Setting.{Setting}
-use Rattle.py_blocks.specs.Rules.{within, around, is_decorator}
-use Rattle.py_blocks.specs.Settings.{settings_of, noted_at, around_by}
+use Rattle.py_blocks.specs.Rules.{is_decorator}
+use Rattle.py_blocks.specs.Settings.{within, setting_around, settings_of, noted_at, around_by}
 use Rattle.py_blocks.specs.OnePass.{undecorated}
 use Rattle.py_blocks.specs.Passing.{Aligned}
 use Rattle.py_blocks.proofs.BlockColumns.{nearest-here, nearest-past, block-low, error-aligned}
 
-noted-right : (before : List Line) (w : ℕ) → nearest before w ≡ w → noted_at before (settings_of before) w ≡ around before w
+noted-right : (before : List Line) (w : ℕ) → nearest before w ≡ w → noted_at before (settings_of before) w ≡ setting_around before w
 noted-right [] w e = refl
 noted-right (y ∷ ys) w e = go (cases_lt w y.column) (noted-right ys w)
   where
-    go : ((w < y.column) ⊎ (y.column ≤ w)) → (nearest ys w ≡ w → noted_at ys (settings_of ys) w ≡ around ys w) → noted_at (y ∷ ys) (settings_of (y ∷ ys)) w ≡ around (y ∷ ys) w
+    go : ((w < y.column) ⊎ (y.column ≤ w)) → (nearest ys w ≡ w → noted_at ys (settings_of ys) w ≡ setting_around ys w) → noted_at (y ∷ ys) (settings_of (y ∷ ys)) w ≡ setting_around (y ∷ ys) w
     go (inl k) more =
         let same : nearest ys w ≡ w = sym (nearest-past y ys w k) ∙ e in
         rw (lt-leb y.column w k, le-ltb y.column w (omega arith)) (more same)
@@ -25,24 +25,24 @@ noted-right (y ∷ ys) w e = go (cases_lt w y.column) (noted-right ys w)
         let own : block_column ys y ≡ w = sym (nearest-here y ys w k) ∙ e in
         let low = block-low ys y in
         let same : y.column ≡ w = omega arith in
-        rw (le-leb y.column w k, le-ltb y.column w (omega arith)) (ap (around ys) same)
+        rw (le-leb y.column w k, le-ltb y.column w (omega arith)) (ap (setting_around ys) same)
 
-pub around-right : (before : List Line) (x : Line) → block_column before x ≡ x.column → around_by before (settings_of before) x ≡ around before x.column
+pub around-right : (before : List Line) (x : Line) → block_column before x ≡ x.column → around_by before (settings_of before) x ≡ setting_around before x.column
 around-right [] x h = refl
 around-right (y ∷ ys) x h = go (opens_one (y ∷ ys) x) refl
   where
-    go : (b : Bool) → opens_one (y ∷ ys) x ≡ b → around_by (y ∷ ys) (settings_of (y ∷ ys)) x ≡ around (y ∷ ys) x.column
+    go : (b : Bool) → opens_one (y ∷ ys) x ≡ b → around_by (y ∷ ys) (settings_of (y ∷ ys)) x ≡ setting_around (y ∷ ys) x.column
     go true e =
         let lt = ltb-true y.column x.column (and_parts y.opens (nat_lt y.column x.column) e).1 in
-        let l : around_by (y ∷ ys) (settings_of (y ∷ ys)) x ≡ within y.kind (around ys y.column) = rw e refl in
-        let r : around (y ∷ ys) x.column ≡ within y.kind (around ys y.column) = rw (lt-ltb y.column x.column lt) refl in
+        let l : around_by (y ∷ ys) (settings_of (y ∷ ys)) x ≡ within y.kind (setting_around ys y.column) = rw e refl in
+        let r : setting_around (y ∷ ys) x.column ≡ within y.kind (setting_around ys y.column) = rw (lt-ltb y.column x.column lt) refl in
         l ∙ sym r
     go false e =
         let n : nearest (y ∷ ys) x.column ≡ x.column = rw e at h in
         let l : around_by (y ∷ ys) (settings_of (y ∷ ys)) x ≡ noted_at (y ∷ ys) (settings_of (y ∷ ys)) x.column = rw e refl in
         l ∙ noted-right (y ∷ ys) x.column n
 
-pub around-told : (before : List Line) (notes : List Setting) (x : Line) → notes ≡ settings_of before → block_column before x ≡ x.column → around_by before notes x ≡ around before x.column
+pub around-told : (before : List Line) (notes : List Setting) (x : Line) → notes ≡ settings_of before → block_column before x ≡ x.column → around_by before notes x ≡ setting_around before x.column
 around-told before notes x n col = ap (λ l. around_by before l x) n ∙ around-right before x col
 
 -- ---- an error line stands where it says
@@ -68,15 +68,15 @@ decorator-within kinds.Error o h = cc
 
 -- ---- decorators that become error lines
 
-pub undecorated-around : (ys : List Line) (c : ℕ) → Aligned ys → around (undecorated ys) c ≡ around ys c
+pub undecorated-around : (ys : List Line) (c : ℕ) → Aligned ys → setting_around (undecorated ys) c ≡ setting_around ys c
 undecorated-around [] c h = refl
 undecorated-around (y ∷ ys) c (a, b, h) = go (is_decorator y.kind) refl (undecorated-around ys c h) (undecorated-around ys y.column h)
   where
-    go : (d : Bool) → is_decorator y.kind ≡ d → around (undecorated ys) c ≡ around ys c → around (undecorated ys) y.column ≡ around ys y.column → around (undecorated (y ∷ ys)) c ≡ around (y ∷ ys) c
-    go false d more at = let same : undecorated (y ∷ ys) ≡ y ∷ ys = rw d refl in ap (λ l. around l c) same
+    go : (d : Bool) → is_decorator y.kind ≡ d → setting_around (undecorated ys) c ≡ setting_around ys c → setting_around (undecorated ys) y.column ≡ setting_around ys y.column → setting_around (undecorated (y ∷ ys)) c ≡ setting_around (y ∷ ys) c
+    go false d more at = let same : undecorated (y ∷ ys) ≡ y ∷ ys = rw d refl in ap (λ l. setting_around l c) same
     go true d more at =
         let same : undecorated (y ∷ ys) ≡ error_line ys y ∷ undecorated ys = rw d refl in
-        ap (λ l. around l c) same ∙ rw (a, at, more) (ap (λ o. if nat_lt y.column c then o else around ys c) (decorator-within y.kind (around ys y.column) d))
+        ap (λ l. setting_around l c) same ∙ rw (a, at, more) (ap (λ o. if nat_lt y.column c then o else setting_around ys c) (decorator-within y.kind (setting_around ys y.column) d))
 
 pub undecorated-noted : (ys : List Line) → Aligned ys → settings_of (undecorated ys) ≡ settings_of ys
 undecorated-noted [] h = refl
@@ -86,8 +86,8 @@ undecorated-noted (y ∷ ys) (a, b, h) = go (is_decorator y.kind) refl (undecora
     go false d more = let same : undecorated (y ∷ ys) ≡ y ∷ ys = rw d refl in ap settings_of same
     go true d more =
         let same : undecorated (y ∷ ys) ≡ error_line ys y ∷ undecorated ys = rw d refl in
-        let here : around (undecorated ys) (block_column ys y) ≡ around ys y.column = ap (around (undecorated ys)) a ∙ undecorated-around ys y.column h in
-        ap settings_of same ∙ ap (λ n. n ∷ settings_of (undecorated ys)) here ∙ ap (λ l. around ys y.column ∷ l) more
+        let here : setting_around (undecorated ys) (block_column ys y) ≡ setting_around ys y.column = ap (setting_around (undecorated ys)) a ∙ undecorated-around ys y.column h in
+        ap settings_of same ∙ ap (λ n. n ∷ settings_of (undecorated ys)) here ∙ ap (λ l. setting_around ys y.column ∷ l) more
 
 undecorated-opens : (ys : List Line) (x : Line) → Aligned ys → opens_one (undecorated ys) x ≡ opens_one ys x
 undecorated-opens [] x h = refl
@@ -142,7 +142,7 @@ error-more ys x h = (undecorated-block ys (error_line ys x) h ∙ error-aligned 
 pub error-noted : (ys : List Line) (x : Line) → Aligned ys → settings_of (error_line ys x ∷ undecorated ys) ≡ around_by ys (settings_of ys) (error_line ys x) ∷ settings_of ys
 error-noted ys x h =
     let c = block_column ys x in
-    let here : around (undecorated ys) c ≡ around_by ys (settings_of ys) (error_line ys x) = undecorated-around ys c h ∙ sym (around-right ys (error_line ys x) (error-aligned ys x)) in
+    let here : setting_around (undecorated ys) c ≡ around_by ys (settings_of ys) (error_line ys x) = undecorated-around ys c h ∙ sym (around-right ys (error_line ys x) (error-aligned ys x)) in
     ap (λ n. n ∷ settings_of (undecorated ys)) here ∙ ap (λ l. around_by ys (settings_of ys) (error_line ys x) ∷ l) (undecorated-noted ys h)
 
 -- ---- the nearest of lines that stand in their blocks

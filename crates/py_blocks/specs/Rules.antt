@@ -1,10 +1,9 @@
 -- Which rules of blocks a line breaks, where error lines break none (Python 3.12 language reference, 7, "Compound statements", and 8.7).
-use Rattle.std.specs.Prelude.{ℕ, ◌+◌, ◌==◌, nat_lt, nat_le, Bool, true, false, not, ◌&&◌, ◌||◌, List, [], ◌∷◌, if◌then◌else◌}
+use Rattle.std.specs.Prelude.{ℕ, ◌+◌, ◌==◌, nat_lt, nat_le, Bool, true, false, not, ◌&&◌, ◌||◌, List, [], ◌∷◌, length, filter, if◌then◌else◌}
 use Rattle.std.specs.List.{list_any}
 use Rattle.py_blocks.specs.declared.line.Line.{Line}
 use Rattle.py_blocks.specs.declared.line.LineKind.{LineKind}
 use Rattle.py_blocks.specs.declared.line.LineKind.TheVariants as kinds
-use Rattle.py_blocks.specs.declared.setting.Setting.{Setting}
 use Rattle.py_blocks.specs.Lines.{is_error, is_unread, is_clause, block_column, level_behind, level_before}
 
 -- ---- sorts of lines
@@ -172,46 +171,43 @@ is_bare_before before x behind =
 
 -- ---- the blocks around a line
 
--- a line at the margin stands in none
-abbrev pub outermost : Setting
-outermost = record { in_match = false; in_def = false; in_loop = false; finallys = 0 }
+-- THE LINES AROUND a line at this column, in whose blocks it stands, by their kinds, the innermost first: the nearest line to its left, and
+-- those around that
+abbrev pub around : List Line → ℕ → List LineKind
+around [] column = []
+around (y ∷ ys) column = if nat_lt y.column column then y.kind ∷ around ys y.column else around ys column
 
-abbrev pub one_more : ℕ → ℕ
-one_more n = if nat_lt n 4 then n + 1 else n
+-- the innermost of them is one
+abbrev pub is_directly_in : (LineKind → Bool) → List LineKind → Bool
+is_directly_in p [] = false
+is_directly_in p (k ∷ ks) = p k
 
--- directly in the block of a line, which stands in such blocks itself: a def or class ends the loops around it, and of the `finally` blocks
--- around at most four are counted
-abbrev pub within : LineKind → Setting → Setting
-within kinds.Match s = record { in_match = true; in_def = s.in_def; in_loop = s.in_loop; finallys = s.finallys }
-within kinds.Def s = record { in_match = false; in_def = true; in_loop = false; finallys = s.finallys }
-within kinds.Class s = record { in_match = false; in_def = s.in_def; in_loop = false; finallys = s.finallys }
-within kinds.Loop s = record { in_match = false; in_def = s.in_def; in_loop = true; finallys = s.finallys }
-within kinds.Finally s = record { in_match = false; in_def = s.in_def; in_loop = s.in_loop; finallys = one_more s.finallys }
-within k s = record { in_match = false; in_def = s.in_def; in_loop = s.in_loop; finallys = s.finallys }
+-- of the loops, defs and classes, the innermost is a loop
+abbrev pub is_in_loop : List LineKind → Bool
+is_in_loop [] = false
+is_in_loop (k ∷ ks) = is_loop k || not (is_scope k) && is_in_loop ks
 
--- THE BLOCKS AROUND a line at this column: it stands in that of the nearest line to its left, and so in those around that
-abbrev pub around : List Line → ℕ → Setting
-around [] column = outermost
-around (y ∷ ys) column = if nat_lt y.column column then within y.kind (around ys y.column) else around ys column
+abbrev pub count_of : (LineKind → Bool) → List LineKind → ℕ
+count_of p ks = length (filter p ks)
 
--- another line in a `match` than a case, or a case elsewhere
-abbrev pub is_case_astray : Setting → LineKind → Bool
-is_case_astray s k = if is_case k then not s.in_match else s.in_match
+-- another line directly in a `match` than a case, or a case elsewhere
+abbrev pub is_case_astray : List LineKind → LineKind → Bool
+is_case_astray outer k = if is_case k then not (is_directly_in is_match outer) else is_directly_in is_match outer
 
 -- a `return` outside of all defs; it may stand in the line of the def's header, and in a class in the def
-abbrev pub is_return_astray : Setting → Line → Bool
-is_return_astray s x = x.returns && not (is_def x.kind || s.in_def)
+abbrev pub is_return_astray : List LineKind → Line → Bool
+is_return_astray outer x = x.returns && not (list_any is_def (x.kind ∷ outer))
 
 -- a `break` or `continue` in no loop of its def or class; it may stand in the line of the loop's header
-abbrev pub is_jump_astray : Setting → Line → Bool
-is_jump_astray s x = x.jumps && not (is_loop x.kind || not (is_scope x.kind) && s.in_loop)
+abbrev pub is_jump_astray : List LineKind → Line → Bool
+is_jump_astray outer x = x.jumps && not (is_in_loop (x.kind ∷ outer))
 
 -- a `finally` in the blocks of four others
-abbrev pub is_finally_too_deep : Setting → LineKind → Bool
-is_finally_too_deep s k = is_finally k && nat_le 4 s.finallys
+abbrev pub is_finally_too_deep : List LineKind → LineKind → Bool
+is_finally_too_deep outer k = is_finally k && nat_le 4 (count_of is_finally outer)
 
-abbrev pub is_astray_in : Setting → Line → Bool
-is_astray_in s x = is_case_astray s x.kind || (is_return_astray s x || (is_jump_astray s x || is_finally_too_deep s x.kind))
+abbrev pub is_astray_in : List LineKind → Line → Bool
+is_astray_in outer x = is_case_astray outer x.kind || (is_return_astray outer x || (is_jump_astray outer x || is_finally_too_deep outer x.kind))
 
 -- ---- together
 

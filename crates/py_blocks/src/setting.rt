@@ -1,11 +1,11 @@
 //! The blocks around a line: whether it stands in a def, in a loop, directly in a `match`, and under how
 //! many `finally`.
 ghost use Rattle.std.specs.Prelude.{◌≡◌, reverse};
-ghost use Rattle.py_blocks.specs.Rules;
+ghost use Rattle.py_blocks.specs.Settings;
 ghost use Rattle.py_blocks.specs.Settings.{noted_at, within_first, around_by};
 
 use crate::columns::opens_one;
-use crate::line::{Line, LineKind, is_case, is_def, is_finally, is_loop, is_scope};
+use crate::line::{Line, LineKind, is_case, is_def, is_finally, is_loop, is_match, is_scope};
 
 /// How deep `finally` blocks are nested at most, the outermost counting as 1.
 pub const MOST_FINALLY: u8 = 4;
@@ -24,7 +24,7 @@ pub struct Setting {
 }
 
 fn outermost() -> Setting
-    ensures { result ≡ Rules.outermost }
+    ensures { result ≡ Settings.outermost }
 {
     Setting {
         in_match: false,
@@ -34,10 +34,10 @@ fn outermost() -> Setting
     }
 }
 
-fn one_more(count: u8) -> u8
-    ensures { result ≡ Rules.one_more count }
+fn finallys_within(kind: LineKind, count: u8) -> u8
+    ensures { result ≡ Settings.finallys_within kind count }
 {
-    if count < MOST_FINALLY {
+    if is_finally(kind) && count < MOST_FINALLY {
         count + 1
     } else {
         count
@@ -46,35 +46,13 @@ fn one_more(count: u8) -> u8
 
 // What stands directly in the block of a line, which stands in such blocks itself.
 fn within(kind: LineKind, outer: Setting) -> Setting
-    ensures { result ≡ Rules.within kind outer }
+    ensures { result ≡ Settings.within kind outer }
 {
-    let inner = Setting {
-        in_match: false,
-        ..outer
-    };
-    match kind {
-        LineKind::Match => Setting {
-            in_match: true,
-            ..inner
-        },
-        LineKind::Def => Setting {
-            in_def: true,
-            in_loop: false,
-            ..inner
-        },
-        LineKind::Class => Setting {
-            in_loop: false,
-            ..inner
-        },
-        LineKind::Loop => Setting {
-            in_loop: true,
-            ..inner
-        },
-        LineKind::Finally => Setting {
-            finallys: one_more(outer.finallys),
-            ..inner
-        },
-        _ => inner,
+    Setting {
+        in_match: is_match(kind),
+        in_def: is_def(kind) || outer.in_def,
+        in_loop: is_loop(kind) || (!is_scope(kind) && outer.in_loop),
+        finallys: finallys_within(kind, outer.finallys),
     }
 }
 
@@ -118,7 +96,7 @@ pub fn around_by(before: &[Line], notes: &[Setting], line: Line) -> Setting
 }
 
 fn is_case_astray(setting: Setting, kind: LineKind) -> bool
-    ensures { result ≡ Rules.is_case_astray setting kind }
+    ensures { result ≡ Settings.is_case_astray_by setting kind }
 {
     if is_case(kind) {
         !setting.in_match
@@ -128,26 +106,26 @@ fn is_case_astray(setting: Setting, kind: LineKind) -> bool
 }
 
 fn is_return_astray(setting: Setting, line: Line) -> bool
-    ensures { result ≡ Rules.is_return_astray setting line }
+    ensures { result ≡ Settings.is_return_astray_by setting line }
 {
     line.returns && !(is_def(line.kind) || setting.in_def)
 }
 
 fn is_jump_astray(setting: Setting, line: Line) -> bool
-    ensures { result ≡ Rules.is_jump_astray setting line }
+    ensures { result ≡ Settings.is_jump_astray_by setting line }
 {
     line.jumps && !(is_loop(line.kind) || (!is_scope(line.kind) && setting.in_loop))
 }
 
 fn is_finally_too_deep(setting: Setting, kind: LineKind) -> bool
-    ensures { result ≡ Rules.is_finally_too_deep setting kind }
+    ensures { result ≡ Settings.is_finally_too_deep_by setting kind }
 {
     is_finally(kind) && setting.finallys >= MOST_FINALLY
 }
 
 /// Whether a line may not stand in these blocks.
 pub fn is_astray_in(setting: Setting, line: Line) -> bool
-    ensures { result ≡ Rules.is_astray_in setting line }
+    ensures { result ≡ Settings.is_astray_by setting line }
 {
     is_case_astray(setting, line.kind)
         || (is_return_astray(setting, line)
