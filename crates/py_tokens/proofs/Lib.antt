@@ -1,10 +1,12 @@
 pub mod Operators
 pub mod Openings
+pub mod NumberReader
 pub mod Fronts
 pub mod Runs
 pub mod RowLaws
 pub mod Measure
 pub mod CutLaws
+pub mod BlockLaws
 pub mod LineLaws
 pub mod Digits
 pub mod Exists

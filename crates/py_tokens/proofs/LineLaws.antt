@@ -4,7 +4,9 @@ use Rattle.std.proofs.lemmas.List.Elements.{All-head, All-tail}
 use Rattle.std.proofs.lemmas.List.{append-nil, drop_all}
 use Rattle.std.proofs.lemmas.Bool.{cond-true, cond-false}
 use Rattle.std.specs.List.{All}
-use Rattle.py_tokens.specs.Lines.{Group, with_all, groups, is_line_end, told, mark, line_of, placed}
+use Rattle.py_tokens.specs.Lines.{Group, with_all, groups, is_line_end, mark, line_of, placed}
+use Rattle.py_tokens.specs.BlockStack.{told, mark_in}
+use Rattle.py_tokens.proofs.BlockLaws.{mark_same}
 use Rattle.py_tokens.specs.declared.kinds.Piece.{Piece}
 use Rattle.py_tokens.specs.declared.lines.LogicalLine.{LogicalLine}
 use Rattle.py_tokens.specs.declared.lines.Placed.{Placed}
@@ -52,11 +54,12 @@ told_none text done blocks start line xs d b l =
     ap (λ (x : List LogicalLine). told text x blocks start line start xs) d
     ∙ ap (λ (x : List ℕ). told text [] x start line start xs) b
     ∙ ap (λ (x : List Placed). told text [] [] start x start xs) l
-    ∙ ap (λ (gs : List Group). mark [] (filter_map (line_of text) gs)) (with_none start xs)
+    ∙ ap (λ (gs : List Group). mark_in [] (filter_map (line_of text) gs)) (with_none start xs)
+    ∙ mark_same (filter_map (line_of text) (groups start xs))
 
-pub told_all : (text : List ℕ) (done new all : List LogicalLine) (blocks after : List ℕ) (start at : ℕ) (line : List Placed) (pieces : List Piece) (i : ℕ) → length pieces ≤ i → told text done blocks start line at (placed at (drop i pieces)) ≡ all → new ++ mark after [] ≡ done ++ mark blocks (filter_map (line_of text) (record { start = start; pieces = line } ∷ [])) → new ≡ all
+pub told_all : (text : List ℕ) (done new all : List LogicalLine) (blocks after : List ℕ) (start at : ℕ) (line : List Placed) (pieces : List Piece) (i : ℕ) → length pieces ≤ i → told text done blocks start line at (placed at (drop i pieces)) ≡ all → new ++ mark_in after [] ≡ done ++ mark_in blocks (filter_map (line_of text) (record { start = start; pieces = line } ∷ [])) → new ≡ all
 told_all text done new all blocks after start at line pieces i h e m =
     sym (append-nil new) ∙ m
-    ∙ ap (λ (ps : List Placed). done ++ mark blocks (filter_map (line_of text) (record { start = start; pieces = ps } ∷ []))) (sym (append-nil line))
+    ∙ ap (λ (ps : List Placed). done ++ mark_in blocks (filter_map (line_of text) (record { start = start; pieces = ps } ∷ []))) (sym (append-nil line))
     ∙ ap (λ (ps : List Piece). told text done blocks start line at (placed at ps)) (sym (drop_all i pieces h))
     ∙ e

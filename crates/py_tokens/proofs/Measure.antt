@@ -15,7 +15,6 @@ use Rattle.py_tokens.specs.declared.kinds.Kind.TheVariants.{Fault, Token, Gap}
 use Rattle.py_tokens.specs.declared.kinds.TokenKind.TheVariants.{FStart, FEnd, Operator}
 use Rattle.py_tokens.specs.declared.kinds.Gap.TheVariants.{Join}
 use Rattle.py_tokens.specs.declared.chars.Class.TheVariants.{NamePart, Blank, InLine}
-use Rattle.py_tokens.specs.declared.numbers.InNumber.TheVariants as number
 use Rattle.py_tokens.specs.declared.strings.InString.TheVariants as string
 use Rattle.py_tokens.specs.declared.strings.InText.TheVariants as prose
 use Rattle.py_tokens.specs.declared.states.State.TheVariants as state
@@ -28,11 +27,12 @@ use Rattle.py_tokens.specs.declared.rows.Mode.{Mode}
 use Rattle.py_tokens.specs.declared.rows.Mode.TheVariants.{Code, Text}
 use Rattle.py_tokens.specs.declared.rows.Here.{Here}
 use Rattle.py_tokens.specs.declared.rows.Row.{Row}
-use Rattle.py_tokens.specs.declared.rows.Row.TheVariants.{Exactly, Run, Reads, Signs, Skipped, Stop, Nothing}
+use Rattle.py_tokens.specs.declared.rows.Row.TheVariants.{Exactly, Run, Number, Reads, Signs, Skipped, Stop, Nothing}
 use Rattle.py_tokens.specs.Nesting.{Nesting}
 use Rattle.py_tokens.specs.declared.opens.Nest.{Nest}
 use Rattle.py_tokens.specs.declared.opens.Nest.TheVariants.{Bracket, FieldBracket, Field, Format, Quoted}
 use Rattle.py_tokens.proofs.Operators.{no_operator, conversions_two}
+use Rattle.py_tokens.proofs.NumberReader.{number_none}
 
 -- one more piece may stand at the end, where something is open
 abbrev pub bit : Bool → ℕ
@@ -57,7 +57,7 @@ sign_none in_field = cond-false _ _ _ (no_operator in_field [] (omega arith)) �
 plain_some : (here : Here) (in_field : Bool) (c d : ℕ) → IsSome (plain_row here in_field c d)
 plain_some here in_field c d =
     either (starts_name c) (Run NamePart) _ (record { none = λ rest. refl })
-    (either (is_ascii_digit c || ((c == 46) && is_ascii_digit d)) (Reads (state.Number number.Start)) _ (record { none = λ rest. refl })
+    (either (is_ascii_digit c || ((c == 46) && is_ascii_digit d)) Number _ (record { none = λ rest. number_none })
     (either (is_blank c) (Run Blank) _ (record { none = λ rest. refl })
     (either (c == 35) (Run InLine) _ (record { none = λ rest. refl })
     (either (opens_bracket c && is_deepest here) Nothing (Signs in_field) (record { none = λ rest. refl }) (record { none = λ rest. sign_none in_field })))))

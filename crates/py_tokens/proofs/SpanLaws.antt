@@ -8,7 +8,6 @@ use Rattle.py_tokens.specs.declared.kinds.TokenKind.{TokenKind}
 use Rattle.py_tokens.specs.declared.lines.LogicalLine.{LogicalLine}
 use Rattle.py_tokens.specs.declared.lines.Placed.{Placed}
 use Rattle.py_tokens.specs.declared.lines.Token.{Token}
-use Rattle.py_tokens.specs.Blocks.{blocks_after}
 use Rattle.py_tokens.specs.Lines.{Group, IsWithin, placed, with_all, groups, is_gap, is_line_end, token_kind, token_of, token_in, end_of, line_from, line_of, mark}
 use Rattle.py_tokens.specs.Spans.{IsSpanIn, IsLineIn}
 use Rattle.py_tokens.proofs.LineLaws.{found_within}
@@ -74,11 +73,11 @@ line_from-in count text g (Some first) all within =
 line-in : (count : ℕ) (text : List ℕ) (g : Group) → IsGroupIn count g → IfSome (line_of text g) (IsLineIn count)
 line-in count text g all = line_from-in count text g (find (λ x. not (is_gap x.kind)) g.pieces) all (found_within (IsWithin 0 count) (λ x. not (is_gap x.kind)) g.pieces all)
 
-mark-in : (count : ℕ) (blocks : List ℕ) (lines : List LogicalLine) → All (IsLineIn count) lines → All (IsLineIn count) (mark blocks lines)
-mark-in count blocks [] all = All-nil _
-mark-in count blocks (line ∷ lines) all =
-    All-cons (IsLineIn count) _ (mark (blocks_after blocks line.column) lines) (All-head (IsLineIn count) line lines all)
-    (mark-in count (blocks_after blocks line.column) lines (All-tail (IsLineIn count) line lines all))
+mark-in : (count : ℕ) (before : List ℕ) (lines : List LogicalLine) → All (IsLineIn count) lines → All (IsLineIn count) (mark before lines)
+mark-in count before [] all = All-nil _
+mark-in count before (line ∷ lines) all =
+    All-cons (IsLineIn count) _ (mark (line.column ∷ before) lines) (All-head (IsLineIn count) line lines all)
+    (mark-in count (line.column ∷ before) lines (All-tail (IsLineIn count) line lines all))
 
 pub lines-in : (text : List ℕ) (start : ℕ) (ps : List Piece) → start + sum_by (λ (p : Piece). p.len) ps ≤ length text → All (IsLineIn (length text)) (mark [] (filter_map (line_of text) (groups start (placed start ps))))
 lines-in text start ps within =

@@ -1,32 +1,33 @@
--- The blocks that are open at a line, by the columns of the lines before it, the innermost first; the module's, at
--- column 0, is not in the list.
+-- The blocks that are open behind lines, by the columns of the lines, the last first.
 -- Python 3.12 language reference, 2.1.8 "Indentation".
-use Rattle.std.specs.Prelude.{ℕ, ◌&&◌, List, [], ◌∷◌, length, Option, Some, None, if◌then◌else◌, nat_lt}
+use Rattle.std.specs.Prelude.{ℕ, zero, suc, ◌+◌, Bool, not, ◌&&◌, ◌||◌, List, [], ◌∷◌, Option, Some, None, if◌then◌else◌, ◌==◌, nat_le, nat_lt}
+use Rattle.std.specs.List.{list_any}
 use Rattle.py_tokens.specs.declared.kinds.TokenFault.{TokenFault}
 use Rattle.py_tokens.specs.declared.kinds.TokenFault.TheVariants.{BadDedent, NestingLimit}
 
-abbrev pub innermost : List ℕ → ℕ
-innermost [] = 0
-innermost (b ∷ bs) = b
+-- a block to the right of the column is open
+abbrev pub is_some_right : (ℕ → Bool) → List ℕ → ℕ → Bool
+is_some_right is_open before column = list_any (λ c. nat_lt column c && is_open c) before
 
--- the blocks that do not stand to the right of the column
-abbrev pub dedent : List ℕ → ℕ → List ℕ
-dedent [] column = []
-dedent (b ∷ bs) column = if nat_lt column b then dedent bs column else b ∷ bs
+-- a block at the column is open: the module's, or that of a line that stood to the right of all that was open before it; and no line
+-- since stands to its left. A line to the left of an open block opens nothing, whether it is at fault or not
+abbrev pub is_open : List ℕ → ℕ → Bool
+is_open [] column = column == 0
+is_open (c ∷ before) column =
+    nat_le column c && (is_open before column || ((column == c) && not (is_some_right (is_open before) before c)))
 
--- behind a line at this column: a line to the left of its block closes blocks, one to the right opens one
-abbrev pub blocks_after : List ℕ → ℕ → List ℕ
-blocks_after bs column =
-    if nat_lt column (innermost bs) then dedent bs column
-    else (if nat_lt (innermost bs) column then column ∷ bs
-    else bs)
+-- the line's column is to the left of an open block, and no open block has it
+abbrev pub is_bad_dedent : List ℕ → ℕ → Bool
+is_bad_dedent before column = is_some_right (is_open before) before column && not (is_open before column)
 
--- blocks may be nested 64 deep
-abbrev pub depth_fault : List ℕ → Option TokenFault
-depth_fault bs = if nat_lt 64 (length bs) then Some NestingLimit else None
+-- how many of the columns from 1 to n have an open block
+abbrev pub count_open : (ℕ → Bool) → ℕ → ℕ
+count_open open_at zero = 0
+count_open open_at (suc n) = (if open_at (suc n) then 1 else 0) + count_open open_at n
 
--- the line's column is smaller than that of its block, and no open block has it; or its block is too deep
-abbrev pub block_fault : List ℕ → ℕ → Option TokenFault
-block_fault bs column =
-    if nat_lt column (innermost bs) && nat_lt (innermost (dedent bs column)) column then Some BadDedent
-    else depth_fault (blocks_after bs column)
+-- the fault of a line at the column in its block: a bad dedent, or more than 64 open blocks
+unfoldable pub block_fault : List ℕ → ℕ → Option TokenFault
+block_fault before column =
+    if is_bad_dedent before column then Some BadDedent
+    else (if nat_lt 64 (count_open (is_open (column ∷ before)) column) then Some NestingLimit
+    else None)

@@ -2,12 +2,11 @@
 -- out. It is known up to 2 ^ 127 - 1.
 -- Python 3.12 language reference, 2.4.5 "Integer literals".
 use Rattle.std.specs.Prelude.{ℕ, ℤ, pos, ◌+◌, ◌-◌, ◌*◌, ◌^◌, Bool, true, false, ◌||◌, List, [], ◌∷◌, Option, Some, None, option_map, if◌then◌else◌, ◌==◌, nat_le, nat_lt, drop}
-use Rattle.py_tokens.specs.States.{kind_from}
+use Rattle.py_tokens.specs.Shapes.{is_of}
+use Rattle.py_tokens.specs.NumericLiterals.{integer}
 use Rattle.py_tokens.specs.declared.kinds.Kind.{Kind}
 use Rattle.py_tokens.specs.declared.kinds.Kind.TheVariants.{Token}
 use Rattle.py_tokens.specs.declared.kinds.TokenKind.TheVariants.{Int}
-use Rattle.py_tokens.specs.declared.numbers.InNumber.TheVariants.{Start}
-use Rattle.py_tokens.specs.declared.states.State.TheVariants.{Number}
 
 -- of 0 to 9, a to f and A to F
 abbrev pub digit_of : ℕ → ℕ
@@ -39,7 +38,7 @@ is_int_kind found = false
 
 -- the text is an integer literal
 abbrev pub is_int : List ℕ → Bool
-is_int text = is_int_kind (kind_from (Some (Number Start)) text [])
+is_int text = is_of integer text
 
 -- a number that an integer literal can have
 abbrev pub below_limit : ℕ → Option ℕ

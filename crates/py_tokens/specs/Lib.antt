@@ -2,6 +2,8 @@ pub mod Fronts
 pub mod Chars
 pub mod Words
 pub mod Signs
+pub mod Shapes
+pub mod NumericLiterals
 pub mod Numbers
 pub mod Strings
 pub mod States
@@ -15,5 +17,6 @@ pub mod Cut
 pub mod Width
 pub mod Blocks
 pub mod Lines
+pub mod BlockStack
 pub mod LogicalLines
 pub mod Spans

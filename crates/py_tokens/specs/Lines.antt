@@ -5,7 +5,7 @@ use Rattle.std.specs.Prelude.{ℕ, ◌+◌, ◌≤◌, Bool, true, false, not, �
 use Rattle.std.specs.List.{list_any}
 use Rattle.py_tokens.specs.Ints.{int_of}
 use Rattle.py_tokens.specs.Width.{width}
-use Rattle.py_tokens.specs.Blocks.{block_fault, blocks_after}
+use Rattle.py_tokens.specs.Blocks.{block_fault}
 use Rattle.py_tokens.specs.declared.kinds.Kind.{Kind}
 use Rattle.py_tokens.specs.declared.kinds.Kind.TheVariants as kind
 use Rattle.py_tokens.specs.declared.kinds.Gap.TheVariants.{LineEnd}
@@ -117,13 +117,10 @@ line_of text g = line_from text g (find (λ x. not (is_gap x.kind)) g.pieces)
 abbrev pub blamed : LogicalLine → Option TokenFault → LogicalLine
 blamed line block = record { tokens = line.tokens; span = line.span; column = line.column; fault = or_else block line.fault }
 
+-- the lines with their faults, behind lines with these columns, the last first
 abbrev pub mark : List ℕ → List LogicalLine → List LogicalLine
-mark bs [] = []
-mark bs (line ∷ lines) = blamed line (block_fault bs line.column) ∷ mark (blocks_after bs line.column) lines
-
--- the lines that are done, and those of the line that is not done and the pieces behind it
-abbrev pub told : List ℕ → List LogicalLine → List ℕ → ℕ → List Placed → ℕ → List Placed → List LogicalLine
-told text done blocks start line at xs = done ++ mark blocks (filter_map (line_of text) (with_all start line (groups at xs)))
+mark before [] = []
+mark before (line ∷ lines) = blamed line (block_fault before line.column) ∷ mark (line.column ∷ before) lines
 
 -- a byte order mark at the front of the text is a blank
 abbrev pub mark_len : List ℕ → ℕ

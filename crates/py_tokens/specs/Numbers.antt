@@ -1,6 +1,6 @@
--- Which texts are numbers: for each place in a number, what may come next, and what a number is that ends there.
--- Python 3.12 language reference, 2.4.4 to 2.4.7 "Numeric literals". The grammar there is right linear:
--- digits, then an underscore before a digit, a point, an exponent or j.
+-- How numbers are read: for each place in a number, which place comes behind a character, and what a number is that ends there. Which
+-- texts are numbers stands in NumericLiterals.antt.
+-- Python 3.12 language reference, 2.4.4 to 2.4.7 "Numeric literals".
 use Rattle.std.specs.Prelude.{ℕ, Bool, ◌&&◌, ◌||◌, Option, Some, None, if◌then◌else◌, ◌==◌, nat_le}
 use Rattle.std.specs.Char.{is_ascii_digit}
 use Rattle.py_tokens.specs.declared.kinds.TokenKind.{TokenKind}

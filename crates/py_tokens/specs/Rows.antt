@@ -1,12 +1,13 @@
 -- The table of tokens and gaps: which row begins at a place, which texts are of a row, and which fault stands where
 -- none fits.
 -- Python 3.12 language reference, 2 "Lexical analysis".
-use Rattle.std.specs.Prelude.{ℕ, ◌+◌, ◌⊎◌, Bool, true, false, not, ◌&&◌, ◌||◌, List, [], ◌∷◌, length, Option, Some, None, if◌then◌else◌, ◌==◌, nat_le, nat_lt, slice_index}
+use Rattle.std.specs.Prelude.{ℕ, ◌+◌, ◌⊎◌, Bool, true, false, not, ◌&&◌, ◌||◌, List, [], ◌∷◌, length, Option, Some, None, option_map, if◌then◌else◌, ◌==◌, nat_le, nat_lt, slice_index}
 use Rattle.std.specs.Char.{is_ascii_digit}
 use Rattle.py_tokens.specs.Chars.{starts_name, is_blank, ends_line, opens_bracket, end_len, has, every}
 use Rattle.py_tokens.specs.Words.{word_kind, is_glued}
 use Rattle.py_tokens.specs.Signs.{sign_kind}
 use Rattle.py_tokens.specs.Strings.{closes_here, closing_len, string_opening}
+use Rattle.py_tokens.specs.NumericLiterals.{number_of}
 use Rattle.py_tokens.specs.States.{when, kind_from}
 use Rattle.py_tokens.specs.Fronts.{IsLongest, HasNone}
 use Rattle.py_tokens.specs.declared.kinds.Kind.{Kind}
@@ -18,7 +19,6 @@ use Rattle.py_tokens.specs.declared.kinds.TokenFault.TheVariants.{BadCharacter, 
 use Rattle.py_tokens.specs.declared.kinds.Piece.{Piece}
 use Rattle.py_tokens.specs.declared.chars.Class.{Class}
 use Rattle.py_tokens.specs.declared.chars.Class.TheVariants.{NamePart, Blank, InLine}
-use Rattle.py_tokens.specs.declared.numbers.InNumber.TheVariants as number
 use Rattle.py_tokens.specs.declared.strings.Quotes.{Quotes}
 use Rattle.py_tokens.specs.declared.strings.Opening.{Opening}
 use Rattle.py_tokens.specs.declared.strings.InString.TheVariants as string
@@ -28,7 +28,7 @@ use Rattle.py_tokens.specs.declared.rows.Mode.{Mode}
 use Rattle.py_tokens.specs.declared.rows.Mode.TheVariants.{Code, Text}
 use Rattle.py_tokens.specs.declared.rows.Here.{Here}
 use Rattle.py_tokens.specs.declared.rows.Row.{Row}
-use Rattle.py_tokens.specs.declared.rows.Row.TheVariants.{Exactly, Run, Reads, Signs, Skipped, Stop, Nothing}
+use Rattle.py_tokens.specs.declared.rows.Row.TheVariants.{Exactly, Run, Number, Reads, Signs, Skipped, Stop, Nothing}
 
 -- ---- the texts of a row
 
@@ -50,6 +50,7 @@ skips (c ∷ cs) = every (has InLine) cs
 abbrev pub row_kind : Row → List ℕ → List ℕ → Option Kind
 row_kind (Exactly n k) front rest = when (not_empty front && (length front == n)) k
 row_kind (Run class) front rest = when (every (has class) front && not_empty front) (run_kind class front)
+row_kind Number front rest = option_map kind.Token (number_of front)
 row_kind (Reads s) front rest = kind_from (Some s) front rest
 row_kind (Signs in_field) front rest = sign_kind in_field front
 row_kind (Skipped fault) front rest = when (skips front) (kind.Fault fault)
@@ -71,7 +72,7 @@ opening_row opening =
 abbrev pub plain_row : Here → Bool → ℕ → ℕ → Row
 plain_row here in_field c d =
     if starts_name c then Run NamePart
-    else (if is_ascii_digit c || ((c == 46) && is_ascii_digit d) then Reads (state.Number number.Start)
+    else (if is_ascii_digit c || ((c == 46) && is_ascii_digit d) then Number
     else (if is_blank c then Run Blank
     else (if c == 35 then Run InLine
     else (if opens_bracket c && is_deepest here then Nothing

@@ -1,6 +1,6 @@
 //! Blocks, by the columns of lines.
 ghost use Rattle.std.specs.Prelude.{◌≡◌, ◌∷◌, OnOk, IfOk};
-ghost use Rattle.py_tokens.specs.Blocks.{innermost, dedent, blocks_after, depth_fault, block_fault};
+ghost use Rattle.py_tokens.specs.BlockStack.{innermost, dedent, blocks_after, depth_fault, stack_fault};
 
 use crate::kinds::TokenFault;
 use py_base::NoMemory;
@@ -49,7 +49,7 @@ fn depth_fault(blocks: &VecDeque<u32>) -> Option<TokenFault>
 /// in them.
 pub fn enter(blocks: &mut VecDeque<u32>, column: u32) -> Result<Option<TokenFault>, NoMemory>
     ensures after { OnOk result (blocks.new.items ≡ blocks_after blocks.old.items column) }
-    ensures fault { IfOk result (λ fault. fault ≡ block_fault blocks.old.items column) }
+    ensures fault { IfOk result (λ fault. fault ≡ stack_fault blocks.old.items column) }
 {
     if column < innermost(blocks) {
         dedent(blocks, column);

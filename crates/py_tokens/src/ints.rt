@@ -1,9 +1,11 @@
 //! The values of integer literals.
-ghost use Rattle.std.specs.Prelude.{◌≡◌, ◌+◌, ◌*◌, ◌^◌, ◌<◌, drop};
-ghost use Rattle.py_tokens.specs.Ints.{digit_of, below_limit, int_base, base_of, int_digits, digits_number, is_int, int_of};
+ghost use Rattle.std.specs.Prelude.{◌≡◌, ◌+◌, ◌*◌, ◌^◌, ◌<◌, [], Some, drop};
+ghost use Rattle.py_tokens.specs.Ints.{digit_of, below_limit, int_base, base_of, int_digits, digits_number, is_int, is_int_kind, int_of};
+ghost use Rattle.py_tokens.specs.States.{kind_from};
 
 use crate::kinds::TokenKind;
 use crate::numbers::{InNumber, number_kind, number_next};
+use crate::states::State;
 
 // Integer literals are known below this number.
 const WIDE: u128 = 1 << 127;
@@ -87,8 +89,9 @@ fn digits_number(base: u128, digits: &[u8]) -> Option<u128>
     Some(value)
 }
 
-fn is_int(text: &[u8]) -> bool
-    ensures { result ≡ is_int text.now }
+// Whether the reader of numbers reads the text as an integer literal.
+fn reads_int(text: &[u8]) -> bool
+    ensures { result ≡ is_int_kind (kind_from (Some (State.Number InNumber.Start)) text.now []) }
 {
     let mut place = InNumber::Start;
     for digit in text {
@@ -98,6 +101,13 @@ fn is_int(text: &[u8]) -> bool
         }
     }
     matches!(number_kind(place), Some(TokenKind::Int))
+}
+
+#[tactic(auto, using(crate::proofs::NumberReader::int_same))]
+fn is_int(text: &[u8]) -> bool
+    ensures { result ≡ is_int text.now }
+{
+    reads_int(text)
 }
 
 /// The value of an integer literal of any base; `None` where the text is no integer literal, and

@@ -2,7 +2,8 @@
 ghost use Rattle.std.specs.Prelude.{◌≡◌, ◌+◌, ◌^◌, ◌<◌, ◌≤◌, List, ◌∷◌, ◌++◌, [], length, IfOk, OnOk, not, find, filter_map, sum_by, slice_range, encode_utf8_all};
 ghost use Rattle.std.specs.List.{All};
 ghost use Rattle.py_tokens.specs.Width.{width, next_column};
-ghost use Rattle.py_tokens.specs.Lines.{Group, is_gap, is_line_end, IsWithin, token_of, token_in, fault_kind, first_fault, is_wide, own_fault, end_of, line_of, blamed, mark, told, groups, placed};
+ghost use Rattle.py_tokens.specs.Lines.{Group, is_gap, is_line_end, IsWithin, token_of, token_in, fault_kind, first_fault, is_wide, own_fault, end_of, line_of, blamed, mark, groups, placed};
+ghost use Rattle.py_tokens.specs.BlockStack.{mark_in, told};
 ghost use Rattle.py_tokens.specs.Spans.{IsLineIn};
 ghost use Rattle.py_tokens.specs.declared.lines.Placed.{Placed};
 
@@ -270,7 +271,7 @@ fn blamed(mut line: LogicalLine, block: Option<TokenFault>) -> LogicalLine
 fn end_line(alloc: Global, text: &[char], lines: &mut Lines) -> Result<(), NoMemory>
     requires size { length text.now ≤ 2 ^ 20 }
     requires within { All (IsWithin lines.old.start (length text.now)) lines.old.line.items }
-    ensures told { OnOk result ((gs : List Group) → lines.new.done ++ mark lines.new.blocks.items (filter_map (line_of text.now) gs) ≡ lines.old.done ++ mark lines.old.blocks.items (filter_map (line_of text.now) (record { start = lines.old.start; pieces = lines.old.line.items } ∷ gs))) }
+    ensures told { OnOk result ((gs : List Group) → lines.new.done ++ mark_in lines.new.blocks.items (filter_map (line_of text.now) gs) ≡ lines.old.done ++ mark_in lines.old.blocks.items (filter_map (line_of text.now) (record { start = lines.old.start; pieces = lines.old.line.items } ∷ gs))) }
 {
     if let Some(line) = line_of(alloc, text, lines.start, &lines.line)? {
         let block = enter(&mut lines.blocks, line.column)?;

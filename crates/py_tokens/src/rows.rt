@@ -43,7 +43,9 @@ pub enum Row {
     Exactly(usize, Kind),
     /// Runs of a class of characters.
     Run(Class),
-    /// Numbers, strings and runs of text.
+    /// Numbers.
+    Number,
+    /// Strings and runs of text.
     Reads(State),
     /// Operators, where the flag says whether they stand directly in a field.
     Signs(bool),
@@ -78,7 +80,7 @@ fn plain_row(here: Here, in_field: bool, c: char, d: char) -> Row
     if starts_name(c) {
         Row::Run(Class::NamePart)
     } else if c.is_ascii_digit() || (c == '.' && d.is_ascii_digit()) {
-        Row::Reads(State::Number(InNumber::Start))
+        Row::Number
     } else if is_blank(c) {
         Row::Run(Class::Blank)
     } else if c == '#' {
@@ -210,6 +212,14 @@ fn skipped(fault: TokenFault, text: &[char]) -> Option<(usize, Kind)>
     }
 }
 
+// The longest number at the front.
+#[tactic(auto, using(crate::proofs::NumberReader::number_answers))]
+fn longest_number(text: &[char]) -> Option<(usize, Kind)>
+    ensures { Answers (row_kind Row.Number) text.now result }
+{
+    longest_from(State::Number(InNumber::Start), text)
+}
+
 /// The longest front that is of the row.
 #[tactic(auto, using(crate::proofs::RowLaws::stop_longest, crate::proofs::RowLaws::nothing_none))]
 fn longest(row: Row, text: &[char]) -> Option<(usize, Kind)>
@@ -218,6 +228,7 @@ fn longest(row: Row, text: &[char]) -> Option<(usize, Kind)>
     match row {
         Row::Exactly(len, kind) => exactly(len, kind, text),
         Row::Run(class) => longest_run(class, text),
+        Row::Number => longest_number(text),
         Row::Reads(state) => longest_from(state, text),
         Row::Signs(in_field) => longest_sign(in_field, text),
         Row::Skipped(fault) => skipped(fault, text),

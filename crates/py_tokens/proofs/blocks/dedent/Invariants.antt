@@ -1,5 +1,5 @@
 use Rattle.std.proofs.Common.{◌≡◌, length}
-use Rattle.py_tokens.specs.Blocks.{dedent}
+use Rattle.py_tokens.specs.BlockStack.{dedent}
 use Rattle.py_tokens.proofs.blocks.dedent.Given as goal
 
 abbrev pub invariant-loop-blocks : goal.invariant-loop-blocks

@@ -1,6 +1,7 @@
 use Rattle.std.proofs.Common.{◌≡◌, ◌+◌, ◌≤◌, drop, length, filter_map, sum_by, []}
 use Rattle.std.specs.List.{All}
-use Rattle.py_tokens.specs.Lines.{IsWithin, told, placed, mark, line_of, groups}
+use Rattle.py_tokens.specs.Lines.{IsWithin, placed, mark, line_of, groups}
+use Rattle.py_tokens.specs.BlockStack.{told}
 use Rattle.py_tokens.specs.declared.kinds.Piece.{Piece}
 use Rattle.py_tokens.proofs.lines.lines_of.Given as goal
 
