@@ -8,3 +8,4 @@ pub mod Rows
 pub mod Flow
 pub mod Edges
 pub mod Around
+pub mod Laws

@@ -23,6 +23,7 @@ mod ends;
 mod form;
 mod frame;
 mod handlers;
+pub mod laws;
 mod matching;
 mod path;
 mod point;
