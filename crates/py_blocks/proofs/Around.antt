@@ -1,10 +1,9 @@
 -- What is noted of the blocks around a line are the lines around it.
-use Rattle.std.proofs.Common.{◌≡◌, ℕ, suc, ◌+◌, ◌<◌, ◌≤◌, ◌⊎◌, inl, inr, nat_lt, nat_le, Bool, true, false, not, ◌&&◌, ◌||◌, if◌then◌else◌, List, [], ◌∷◌, length, filter, refl, sym, ◌∙◌, ap, arith}
+use Rattle.std.proofs.Common.{◌≡◌, ℕ, suc, ◌+◌, ◌<◌, ◌≤◌, ◌⊎◌, inl, inr, nat_lt, nat_le, Bool, true, false, not, ◌&&◌, ◌||◌, if◌then◌else◌, List, [], ◌∷◌, refl, sym, ◌∙◌, ap, arith}
 use Rattle.std.specs.List.{list_any}
 use Rattle.std.proofs.lemmas.Bool.{lt-ltb, le-ltb, le-leb, cases_lt}
 use Rattle.py_blocks.specs.declared.line.Line.{Line}
 use Rattle.py_blocks.specs.declared.line.LineKind.{LineKind}
-use Rattle.py_blocks.specs.declared.setting.Setting.{Setting}
 use Rattle.py_blocks.specs.Rules.{is_match, is_def, is_loop, is_scope, is_finally, around, is_directly_in, is_in_loop, count_of, is_astray_in}
 use Rattle.py_blocks.specs.Settings.{within, setting_of, setting_around, finallys_within, is_astray_by}
 

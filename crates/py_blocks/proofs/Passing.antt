@@ -1,11 +1,11 @@
 -- One pass gives the lines that replacing the first faulty line again and again gives.
-use Rattle.std.proofs.Common.{◌≡◌, ℕ, ◌≤◌, ◌==◌, Bool, true, false, not, ◌&&◌, ◌||◌, Option, Some, None, List, [], ◌∷◌, refl, sym, ◌∙◌, ap, subst, arith}
+use Rattle.std.proofs.Common.{◌≡◌, ℕ, ◌≤◌, ◌==◌, Bool, true, false, not, ◌&&◌, Option, Some, None, List, [], ◌∷◌, refl, sym, ◌∙◌, ap, subst, arith}
 use Rattle.std.proofs.lemmas.Bool.{le-ltb, eqb-true, or_parts, or_left, or_right, not-false, and_parts}
 use Rattle.py_blocks.specs.declared.line.Line.{Line}
 use Rattle.py_blocks.specs.declared.line.LineKind.{LineKind}
 use Rattle.py_blocks.specs.declared.line.LineKind.TheVariants as kinds
 use Rattle.py_blocks.specs.Lines.{is_error, is_unread, block_column, error_line, behind_error}
-use Rattle.py_blocks.specs.Rules.{is_decorator, is_decorated, opens_nothing, decorates_nothing, tries_nothing, matches_nothing, is_misplaced, is_faulty}
+use Rattle.py_blocks.specs.Rules.{is_decorator, is_decorated, opens_nothing, decorates_nothing, is_misplaced, is_faulty}
 use Rattle.py_blocks.specs.Settling.{onto, replaced_from, replaced, Settles, settled, replacing}
 use Rattle.py_blocks.specs.OnePass.{undecorated, is_taken, lines_behind, settled_from}
 use Rattle.py_blocks.proofs.BlockColumns.{block-low}

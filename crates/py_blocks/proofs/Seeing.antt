@@ -13,7 +13,7 @@ use Rattle.py_blocks.specs.declared.line.Line.{Line}
 use Rattle.py_blocks.specs.Enclosing.{line_at}
 use Rattle.py_blocks.specs.Lines.{is_error}
 use Rattle.py_blocks.specs.Nesting.{kind_read, line_kind}
-use Rattle.py_blocks.specs.Faults.{seen_at, lines_seen, fault_at, standing, IsNesting}
+use Rattle.py_blocks.specs.Faults.{seen_at, lines_seen, fault_at, standing}
 use Rattle.py_blocks.specs.Facts.{Row, facts_of}
 use Rattle.py_blocks.specs.Laws.{written, has_fault, FaultlessNesting}
 use Rattle.py_blocks.proofs.Lawful.{faultless-end}

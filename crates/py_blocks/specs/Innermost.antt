@@ -1,12 +1,11 @@
 -- The innermost def or class in whose block each line of a text stands (Python 3.12 language reference, 4.1, "Structure of a program"), and
 -- what the program keeps from line to line to find it.
-use Rattle.std.specs.Prelude.{ℕ, nat_lt, Bool, false, ◌&&◌, Option, Some, None, List, length, slice_index_or, map, if◌then◌else◌}
+use Rattle.std.specs.Prelude.{ℕ, nat_lt, Bool, false, Option, Some, None, List, length, slice_index_or, map, if◌then◌else◌}
 use Rattle.std.specs.List.{find, filter, range_with_len, fold}
 use Rattle.py_blocks.specs.declared.facts.LineFacts.{LineFacts}
 use Rattle.py_blocks.specs.declared.sort.Sort.{Sort}
 use Rattle.py_blocks.specs.declared.sort.Sort.TheVariants as sorts
-use Rattle.py_blocks.specs.Enclosing.{is_a, stays_right_of, encloses, is_innermost}
-use Rattle.py_blocks.specs.Search.{each_below}
+use Rattle.py_blocks.specs.Enclosing.{is_a, encloses, is_innermost}
 
 -- the innermost def or class in whose block the line i stands
 abbrev pub scope_at : List LineFacts → ℕ → Option ℕ

@@ -1,6 +1,6 @@
 -- The lines of a text as the nesting has them: those that stand, and error lines in the place of faulty ones (Python 3.12 language reference,
 -- sections 2.1.8, 7 and 8).
-use Rattle.std.specs.Prelude.{◌≡◌, ℕ, ◌+◌, Bool, not, ◌&&◌, Option, Some, None, List, [], ◌∷◌}
+use Rattle.std.specs.Prelude.{Option, Some, None}
 use Rattle.py_base.specs.declared.node.NodeKind.{NodeKind}
 use Rattle.py_base.specs.declared.node.NodeKind.TheVariants as nodes
 use Rattle.py_blocks.specs.declared.line.LineKind.{LineKind}

@@ -1,5 +1,5 @@
 -- Which rules of blocks a line breaks, where error lines break none (Python 3.12 language reference, 7, "Compound statements", and 8.7).
-use Rattle.std.specs.Prelude.{ℕ, ◌+◌, ◌==◌, nat_lt, nat_le, Bool, true, false, not, ◌&&◌, ◌||◌, List, [], ◌∷◌, length, filter, if◌then◌else◌}
+use Rattle.std.specs.Prelude.{ℕ, ◌==◌, nat_lt, nat_le, Bool, true, false, not, ◌&&◌, ◌||◌, List, [], ◌∷◌, length, filter, if◌then◌else◌}
 use Rattle.std.specs.List.{list_any}
 use Rattle.py_blocks.specs.declared.line.Line.{Line}
 use Rattle.py_blocks.specs.declared.line.LineKind.{LineKind}

@@ -1,5 +1,5 @@
 -- What is noted of the blocks around each line (this project's own; the bodies are proved over it, and it gives what `Rules` says).
-use Rattle.std.specs.Prelude.{ℕ, ◌+◌, nat_lt, nat_le, Bool, true, false, not, ◌&&◌, ◌||◌, List, [], ◌∷◌, if◌then◌else◌}
+use Rattle.std.specs.Prelude.{ℕ, ◌+◌, nat_lt, nat_le, Bool, false, not, ◌&&◌, ◌||◌, List, [], ◌∷◌, if◌then◌else◌}
 use Rattle.py_blocks.specs.declared.line.Line.{Line}
 use Rattle.py_blocks.specs.declared.line.LineKind.{LineKind}
 use Rattle.py_blocks.specs.declared.setting.Setting.{Setting}
