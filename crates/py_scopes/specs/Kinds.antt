@@ -36,7 +36,7 @@ binds_part kinds.StarTypeParameter i n = true
 binds_part kinds.DoubleStarTypeParameter i n = true
 binds_part _ i n = false
 
--- What holds targets or patterns hands on to its i-th part that it is bound.
+-- What holds targets or patterns hands on to its i-th part that it is bound, and a dotted name that is imported to its first.
 abbrev pub hands_on : NodeKind → ℕ → Bool
 hands_on kinds.Entries i = true
 hands_on kinds.Targets i = true
@@ -52,6 +52,7 @@ hands_on kinds.PatternItem i = true
 hands_on kinds.DoubleStarPattern i = true
 hands_on kinds.ClassPattern i = not (i == 0)
 hands_on kinds.KeywordPattern i = i == 1
+hands_on kinds.DottedName i = i == 0
 hands_on _ i = false
 
 -- The i-th part only spells: a module's name or one in it, that of an argument, a class pattern's keyword, the word `type`.
@@ -62,12 +63,13 @@ spells_part kinds.ImportFrom i = i == 0
 spells_part kinds.ImportAll i = true
 spells_part kinds.Alias i = i == 0
 spells_part kinds.TypeAlias i = i == 0
+spells_part kinds.DottedName i = not (i == 0)
 spells_part _ i = false
 
 -- the parts of a dotted name spell where it does
 abbrev pub is_dotted : NodeKind → Bool
-is_dotted kinds.Attribute = true
 is_dotted kinds.RelativeSource = true
+is_dotted kinds.DottedName = true
 is_dotted _ = false
 
 abbrev pub is_name : NodeKind → Bool
@@ -90,10 +92,6 @@ abbrev pub is_for : NodeKind → Bool
 is_for kinds.ComprehensionFor = true
 is_for kinds.AsyncComprehensionFor = true
 is_for _ = false
-
-abbrev pub is_import : NodeKind → Bool
-is_import kinds.Import = true
-is_import _ = false
 
 abbrev pub is_case : NodeKind → Bool
 is_case kinds.Case = true

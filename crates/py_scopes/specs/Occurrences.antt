@@ -16,7 +16,7 @@ use Rattle.py_scopes.specs.declared.occurrence.Role.{Role}
 use Rattle.py_scopes.specs.declared.occurrence.Role.TheVariants as roles
 use Rattle.py_scopes.specs.declared.occurrence.Annotation.{Annotation}
 use Rattle.py_scopes.specs.declared.occurrence.Occurrence.{Occurrence}
-use Rattle.py_scopes.specs.Kinds.{binds_part, hands_on, spells_part, is_dotted, is_name, is_attribute, is_round, is_strings, is_import, is_case, is_named, is_global, is_nonlocal, is_decorator, is_parameters, is_long_parameter, makes_member, gives_value, is_annotated}
+use Rattle.py_scopes.specs.Kinds.{binds_part, hands_on, spells_part, is_dotted, is_name, is_attribute, is_round, is_strings, is_case, is_named, is_global, is_nonlocal, is_decorator, is_parameters, is_long_parameter, makes_member, gives_value, is_annotated}
 use Rattle.py_scopes.specs.Scopes.{scopes_along, kind_around, from_first, takes_named}
 use Rattle.py_scopes.specs.Way.{way_out}
 
@@ -25,17 +25,12 @@ abbrev pub of_kind : (NodeKind → Bool) → Option Step → Bool
 of_kind passes None = false
 of_kind passes (Some s) = passes s.kind
 
-abbrev pub if_import : Option Step → Option Step
-if_import b = if of_kind is_import b then b else None
-
 -- WHAT BINDS a place: the first node outward that binds the part that leads in, through nodes that hand on. Of a dotted name that is
 -- imported its first name is bound.
 abbrev pub binder : List Step → Option Step
 binder [] = None
 binder (s ∷ ss) =
-    if binds_part s.kind s.part s.parts then Some s
-    else (if hands_on s.kind s.part then binder ss
-    else (if is_attribute s.kind then if_import (binder ss) else None))
+    if binds_part s.kind s.part s.parts then Some s else (if hands_on s.kind s.part then binder ss else None)
 
 abbrev pub only_spells : List Step → Bool
 only_spells [] = false

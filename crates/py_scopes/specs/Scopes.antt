@@ -71,16 +71,12 @@ in_parameters part around = around
 abbrev pub in_type_alias : Step → List Scope → List Scope
 in_type_alias s around = if nat_lt 1 s.part then typed s.around around else around
 
--- Brackets, or arguments, with a `for` among them are a comprehension.
+-- Brackets with a `for` among them are a comprehension.
 abbrev pub is_comprehension : Step → Bool
 is_comprehension s = nat_lt s.first_for s.parts
 
 abbrev pub in_brackets : Step → List Scope → List Scope
 in_brackets s around = if is_comprehension s then opened s.around scope.Comprehension around else around
-
--- what is called stands outside
-abbrev pub in_call : Step → List Scope → List Scope
-in_call s around = if s.part == 0 then around else in_brackets s around
 
 -- The iterable of the first `for` of a comprehension stands outside of it.
 abbrev pub is_first_for : List Step → Bool
@@ -106,7 +102,6 @@ scopes_inside kinds.DoubleStarParameter s ss around = in_star_parameter (taker (
 scopes_inside kinds.TypeAlias s ss around = in_type_alias s around
 scopes_inside kinds.ComprehensionFor s ss around = in_for s ss around
 scopes_inside kinds.AsyncComprehensionFor s ss around = in_for s ss around
-scopes_inside kinds.Call s ss around = in_call s around
 scopes_inside k s ss around = in_brackets s around
 
 -- THE SCOPES AROUND what a way leads out from

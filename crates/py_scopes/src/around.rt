@@ -1,7 +1,7 @@
 //! The scopes around a place.
 ghost use Rattle.std.specs.Prelude.{◌≡◌, ◌==◌, ◌-◌, ◌||◌, IfOk};
 ghost use Rattle.py_scopes.specs.Kinds.{is_name};
-ghost use Rattle.py_scopes.specs.Scopes.{typed, owned, in_statement, in_header, in_lambda, taker, kind_around, in_parameter, in_annotated_parameter, in_star_parameter, in_parameters, in_type_alias, is_comprehension, in_brackets, in_call, is_first_for, in_for, scopes_inside, scopes_along};
+ghost use Rattle.py_scopes.specs.Scopes.{typed, owned, in_statement, in_header, in_lambda, taker, kind_around, in_parameter, in_annotated_parameter, in_star_parameter, in_parameters, in_type_alias, is_comprehension, in_brackets, is_first_for, in_for, scopes_inside, scopes_along};
 
 use crate::scope::{Scope, ScopeKind};
 use crate::way::Step;
@@ -209,16 +209,6 @@ fn in_brackets(step: &Step, around: Nest) -> Result<Nest, NoMemory>
     }
 }
 
-fn in_call(step: &Step, around: Nest) -> Result<Nest, NoMemory>
-    ensures { IfOk result (λ nest. nest ≡ in_call step.now around) }
-{
-    if step.part == 0 {
-        Ok(around)
-    } else {
-        in_brackets(step, around)
-    }
-}
-
 fn is_first_for(way: &[Step]) -> bool
     ensures { result ≡ is_first_for way.now }
 {
@@ -260,7 +250,6 @@ fn scopes_inside(step: &Step, outward: &[Step], around: Nest) -> Result<Nest, No
         NodeKind::ComprehensionFor | NodeKind::AsyncComprehensionFor => {
             Ok(in_for(step, outward, around))
         }
-        NodeKind::Call => in_call(step, around),
         _ => in_brackets(step, around),
     }
 }

@@ -59,6 +59,7 @@ pub(crate) fn does_hand_on(kind: NodeKind, part: usize) -> bool
         | NodeKind::DoubleStarPattern => true,
         NodeKind::ClassPattern => part != 0,
         NodeKind::KeywordPattern => part == 1,
+        NodeKind::DottedName => part == 0,
         _ => false,
     }
 }
@@ -74,6 +75,7 @@ pub(crate) fn does_spell(kind: NodeKind, part: usize) -> bool
         | NodeKind::Alias
         | NodeKind::TypeAlias => part == 0,
         NodeKind::ImportAll => true,
+        NodeKind::DottedName => part != 0,
         _ => false,
     }
 }
@@ -82,7 +84,7 @@ pub(crate) fn does_spell(kind: NodeKind, part: usize) -> bool
 pub(crate) fn is_dotted(kind: NodeKind) -> bool
     ensures { result ≡ is_dotted kind }
 {
-    matches!(kind, NodeKind::Attribute | NodeKind::RelativeSource)
+    matches!(kind, NodeKind::RelativeSource | NodeKind::DottedName)
 }
 
 /// Whether it is the `for` of a comprehension.

@@ -2,8 +2,8 @@
 ghost use Rattle.std.specs.Prelude.{◌≡◌, ◌<◌, ◌++◌, Some, IfOk, OnOk, codes, bytes_eq, length, map, slice_get};
 ghost use Rattle.std.specs.List.{list_any};
 ghost use Rattle.std.specs.Option.{option_to_list};
-ghost use Rattle.py_scopes.specs.Kinds.{is_case, is_import, is_named, makes_member};
-ghost use Rattle.py_scopes.specs.Occurrences.{of_kind, if_import, binder, only_spells, in_pattern_string, counts, is_group, target_way, node_around, target_binder, decorated, is_first_part, is_first_parameter, text_of, word_name, name_of, object_of, read_by, static_at, static_or, read_role, role_of, some_binder, valued_by, annotation_of, annotation_by, scopes_for, is_builtin, occurrence_on, leaf_name, occurrence_if, occurrence_at, occurrences, parts_of};
+ghost use Rattle.py_scopes.specs.Kinds.{is_case, is_named, makes_member};
+ghost use Rattle.py_scopes.specs.Occurrences.{of_kind, binder, only_spells, in_pattern_string, counts, is_group, target_way, node_around, target_binder, decorated, is_first_part, is_first_parameter, text_of, word_name, name_of, object_of, read_by, static_at, static_or, read_role, role_of, some_binder, valued_by, annotation_of, annotation_by, scopes_for, is_builtin, occurrence_on, leaf_name, occurrence_if, occurrence_at, occurrences, parts_of};
 ghost use Rattle.py_scopes.specs.Tables.{steps_outward, AreBelow};
 
 use crate::around::{kind_around, scopes_along};
@@ -60,15 +60,6 @@ pub struct Occurrence {
     pub annotation: Option<Annotation>,
 }
 
-fn is_import(binder: Option<Step>) -> bool
-    ensures { result ≡ of_kind is_import binder }
-{
-    match binder {
-        Some(step) => step.kind == NodeKind::Import,
-        None => false,
-    }
-}
-
 fn is_case(binder: Option<Step>) -> bool
     ensures { result ≡ of_kind is_case binder }
 {
@@ -96,12 +87,6 @@ fn does_make_target(binder: Option<Step>) -> bool
     }
 }
 
-fn if_import(binder: Option<Step>) -> Option<Step>
-    ensures { result ≡ if_import binder }
-{
-    if is_import(binder) { binder } else { None }
-}
-
 // What binds the place that the way leads out from.
 fn binder(way: &[Step]) -> Option<Step>
     ensures { result ≡ binder way.now }
@@ -111,8 +96,6 @@ fn binder(way: &[Step]) -> Option<Step>
         Some(*step)
     } else if does_hand_on(step.kind, step.part) {
         binder(outward)
-    } else if step.kind == NodeKind::Attribute {
-        if_import(binder(outward))
     } else {
         None
     }
