@@ -165,19 +165,19 @@ row_leaves t n (forms.While loop) c m = ((tt, (tt, behind_leaves t c loop.otherw
 row_leaves t n (forms.For loop) c m = ((tt, (tt, (tt, (tt, (tt, behind_leaves t c loop.otherwise (behind n c)))))), tt)
 row_leaves t n (forms.Try form) c m = (
   (let parts : List NodeId = form.body ∷ listed_part form.otherwise in
-  joined _ (handler_arrows t n c (onward t n c form.cleanup) form.handlers)
-  (joined _ (arrows_to (path_end t c (own n c) parts) Plain (onward t n c form.cleanup))
-  (joined _ (path t c (own n c) Plain parts)
-  (joined (start_arrows t n c form.handlers) (cleanup_arrows t n c form.cleanup) (starts_leave t n c form.handlers) (cleanup_leaves t n c form.cleanup))
-  (path_leaves t c (own n c) Plain parts tt))
-  (to_leave (path_end t c (own n c) parts) (onward t n c form.cleanup)))
-  (handlers_leave t n c (onward t n c form.cleanup) form.handlers)),
+      joined _ (handler_arrows t n c (onward t n c form.cleanup) form.handlers)
+      (joined _ (arrows_to (path_end t c (own n c) parts) Plain (onward t n c form.cleanup))
+      (joined _ (path t c (own n c) Plain parts)
+      (joined (start_arrows t n c form.handlers) (cleanup_arrows t n c form.cleanup) (starts_leave t n c form.handlers) (cleanup_leaves t n c form.cleanup))
+      (path_leaves t c (own n c) Plain parts tt))
+      (to_leave (path_end t c (own n c) parts) (onward t n c form.cleanup)))
+      (handlers_leave t n c (onward t n c form.cleanup) form.handlers)),
   start_exits_leave n c form.handlers,
 )
 row_leaves t n (forms.Match form) c m = ((tt, (tt, ends_leave (λ (k : NodeId). last_of t k c) (behind n c) form.cases)), tt)
 row_leaves t n (forms.Case form) c m = (
   joined (chain_to t c form.values (own n c) Plain) _ (chain_to_leaves t c form.values (own n c))
-  (path_leaves t c (own n c) (kinds.Case n) _ (refl, refl)),
+      (path_leaves t c (own n c) (kinds.Case n) _ (refl, refl)),
   ((refl, refl), tt),
 )
 row_leaves t n (forms.Module statements) c m = (tt, tt)
