@@ -78,6 +78,15 @@ pub fn names(rt: HostRuntime, number: u32) -> io::Result<()> {
     }
 }
 
+/// So many copies of a text, one behind the other.
+pub fn repeated(alloc: Global, text: &str, times: u32) -> Result<String, NoMemory> {
+    let mut out = String::new(alloc);
+    for _ in 0..times {
+        out.push_str(text)?;
+    }
+    Ok(out)
+}
+
 /// Prints what the layers up to the one of this name make of a text.
 pub fn layers(rt: HostRuntime, layer: &str, text: &str) -> io::Result<()> {
     if text.len() > MOST_BYTES {

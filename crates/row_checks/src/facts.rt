@@ -2,7 +2,8 @@
 
 use crate::sources::flow_of;
 use crate::{
-    classes, edges, faults, lines, listing, places, references, scopes, symbols, tokens, trees,
+    classes, edges, faults, lines, listing, names, places, references, scopes, symbols, tokens,
+    trees,
 };
 use py_base::NoMemory;
 use std::alloc::Global;
@@ -10,6 +11,8 @@ use std::alloc::Global;
 /// What the rows of a file are about.
 #[derive(Clone, Copy)]
 pub enum Subject {
+    /// The names of the language.
+    Names,
     /// The lines and columns of a text's characters.
     Places,
     /// The logical lines of a text with their tokens.
@@ -55,6 +58,7 @@ pub enum Subject {
 /// All facts of a source that a subject has.
 pub fn facts(alloc: Global, subject: Subject, source: &str) -> Result<Vec<String>, NoMemory> {
     match subject {
+        Subject::Names => names::facts(alloc, source),
         Subject::Places => places::facts(alloc, source),
         Subject::Tokens => tokens::facts(alloc, source),
         Subject::Expressions => lines::expression_facts(alloc, source),

@@ -15,6 +15,7 @@ mod facts;
 mod faults;
 mod lines;
 mod listing;
+mod names;
 mod nodes;
 mod places;
 mod references;
@@ -29,7 +30,8 @@ use facts::Subject;
 use std::{fs, io};
 
 /// The files of rows, and what each is about.
-const FILES: [(&str, Subject); 20] = [
+const FILES: [(&str, Subject); 21] = [
+    ("names", Subject::Names),
     ("places", Subject::Places),
     ("tokens", Subject::Tokens),
     ("expressions", Subject::Expressions),
