@@ -1,18 +1,16 @@
 -- What is kept of the names tells what the table says of them.
-use Rattle.std.proofs.Common.{◌≡◌, ◌==◌, ◌<◌, ◌≤◌, ◌+◌, ◌&&◌, ◌⊎◌, ℕ, Bool, true, false, cond, List, [], ◌∷◌, ◌++◌, length, map, refl, sym, ap, ◌∙◌, zero, suc, arith, Option, Some, None}
+use Rattle.std.proofs.Common.{◌≡◌, ◌==◌, ◌+◌, ◌&&◌, ℕ, Bool, true, false, cond, List, [], ◌∷◌, ◌++◌, map, refl, sym, ap, ◌∙◌, zero, suc, Option, Some}
 use Rattle.std.specs.Prelude.{option_map, find, slice_get, bytes_eq, unwrap_or, if◌then◌else◌}
 use Rattle.std.specs.List.{position_from}
-use Rattle.std.proofs.lemmas.Option.{slice_get-map}
-use Rattle.py_base.specs.declared.ids.ClassId.{ClassId}
 use Rattle.type_terms.specs.declared.atom.Atom.{Atom}
 use Rattle.builtin_rows.specs.declared.held.Held.{Held}
 use Rattle.builtin_rows.specs.declared.held.Member.{Member}
 use Rattle.builtin_rows.specs.declared.table.Owner.{Owner}
 use Rattle.py_base.specs.LanguageNames.{language_names}
 use Rattle.type_terms.specs.declared.rows.Row.{Row}
-use Rattle.builtin_rows.specs.Held.{asked, held_one, held_from, member_one, members_of, number_among, type_among}
+use Rattle.builtin_rows.specs.Held.{asked, held_from, members_of, number_among, type_among}
 use Rattle.builtin_rows.specs.Kept.{flat}
-use Rattle.builtin_rows.specs.Rows.{by_text, name_number, entry_type, builtin_named, module_named, row_number, is_call, is_method_of, row_of, row_at, no_row}
+use Rattle.builtin_rows.specs.Rows.{by_text, name_number, entry_type, builtin_named, module_named, row_number, is_call, row_of, row_at, no_row}
 use Rattle.builtin_rows.specs.Table.{RowLine, ModuleLine, rows, entries}
 
 -- what is kept for each text, asked at a place, is what the text at that place has

@@ -1,5 +1,5 @@
 -- The constants of the code are the table, and the names of the language.
-use Rattle.std.proofs.Common.{◌≡◌, map, List, ℕ, refl}
+use Rattle.std.proofs.Common.{◌≡◌, map, refl}
 use Rattle.py_base.specs.LanguageNames.{language_names, builtin_names}
 use Rattle.py_base.specs.declared.language_names.TheConstants.{LANGUAGE_NAMES, BUILTIN_NAMES}
 use Rattle.builtin_rows.specs.declared.table.TheConstants.{ROWS, ENTRIES}

@@ -1,6 +1,6 @@
 -- The finite lists of what the builtins bring along: the atoms in the types of names, of names of modules and of fixed results, how many
 -- rows there are, and which of them are functions and which methods.
-use Rattle.std.specs.Prelude.{ℕ, Bool, true, false, Option, Some, None, List, [], ◌∷◌, ◌++◌, length, slice_get}
+use Rattle.std.specs.Prelude.{ℕ, Bool, false, Option, Some, None, List, [], length, slice_get}
 use Rattle.std.specs.List.{flat_map}
 use Rattle.py_base.specs.LanguageNames.{builtin_names}
 use Rattle.py_base.specs.declared.ids.ClassId.{ClassId}

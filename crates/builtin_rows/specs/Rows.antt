@@ -7,7 +7,6 @@ use Rattle.py_base.specs.Builtins.{id_of, builtin_count}
 use Rattle.py_base.specs.LanguageNames.{language_names, builtin_names}
 use Rattle.py_base.specs.declared.builtin.Builtin.TheVariants as class
 use Rattle.py_base.specs.declared.ids.ClassId.{ClassId}
-use Rattle.py_base.specs.declared.ids.NameId.{NameId}
 use Rattle.type_terms.specs.Rows.{RowTable}
 use Rattle.type_terms.specs.Types.{both_bools}
 use Rattle.type_terms.specs.declared.atom.Atom.{Atom}
@@ -92,6 +91,10 @@ no_row = record { least = 0; most = None; called = true; result = form.Nothing }
 
 unfoldable pub row_at : ℕ → Row
 row_at n = unwrap_or (slice_get (map row_of rows) n) no_row
+
+-- the name of a row, and nothing for a number that no row has
+unfoldable pub row_word : ℕ → List ℕ
+row_word n = unwrap_or (option_map (λ line. line.name) (slice_get rows n)) []
 
 abbrev pub is_function : Owner → Bool
 is_function owner.Function = true

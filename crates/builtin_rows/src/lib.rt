@@ -14,9 +14,12 @@
 mod arguments;
 mod builtins;
 mod held;
+pub mod laws;
 mod result;
+mod row_names;
 pub mod table;
 mod types;
 
 pub use arguments::takes;
 pub use builtins::Builtins;
+pub use row_names::row_word;

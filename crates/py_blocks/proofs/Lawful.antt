@@ -134,7 +134,7 @@ onto-sub : (before xs ys : List Line) → Sublist (places xs) (places ys) → Su
 onto-sub [] xs ys s = s
 onto-sub (b ∷ bs) xs ys s = onto-sub bs (b ∷ xs) (b ∷ ys) (keep b.place (places xs) (places ys) s)
 
-replaced-sub : (xs before next : List Line) → replaced_from before xs ≡ Some next → Sublist (places next) (places (onto before xs))
+pub replaced-sub : (xs before next : List Line) → replaced_from before xs ≡ Some next → Sublist (places next) (places (onto before xs))
 replaced-sub [] before next h = cc
 replaced-sub (x ∷ xs) before next h = go (is_faulty before x xs) refl (replaced-sub xs (x ∷ before) next)
   where

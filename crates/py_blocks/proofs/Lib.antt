@@ -17,3 +17,4 @@ pub mod Going
 pub mod Lawful
 pub mod Staging
 pub mod Seeing
+pub mod Faultless

@@ -57,7 +57,7 @@ facts-column r = go r.fault refl r.tree refl
     go None e None i = rw (e, i) refl
     go None e (Some t) i = rw (e, i) refl
 
-facts-at : (rows : List Row) (k : ℕ) (d : Row) → k < length rows → line_at (map facts_of rows) k ≡ facts_of (get_or rows k d)
+pub facts-at : (rows : List Row) (k : ℕ) (d : Row) → k < length rows → line_at (map facts_of rows) k ≡ facts_of (get_or rows k d)
 facts-at [] k d lt = absurd (omega arith)
 facts-at (r ∷ rows) zero d lt = refl
 facts-at (r ∷ rows) (suc k) d lt = facts-at rows k d (omega arith)
@@ -77,12 +77,12 @@ written-from all (r ∷ rows) i h =
     ap (λ s. s ∷ map (standing all) (map (seen_at all) (range_with_len (i + 1) (length rows)))) (standing-same all i r here)
     ∙ ap (λ (ls : List StandingLine). record { column = r.column; line = i; fault = None } ∷ ls) more
 
-written-whole : (rows : List Row) → map (standing (map facts_of rows)) (lines_seen (map facts_of rows)) ≡ written rows 0
+pub written-whole : (rows : List Row) → map (standing (map facts_of rows)) (lines_seen (map facts_of rows)) ≡ written rows 0
 written-whole rows =
     ap (λ n. map (standing (map facts_of rows)) (map (seen_at (map facts_of rows)) (range_with_len 0 n))) (length-map rows facts_of)
     ∙ written-from (map facts_of rows) rows 0 (λ k d lt. let z : 0 + k ≡ k = omega arith in ap (line_at (map facts_of rows)) z ∙ facts-at rows k d lt)
 
-no-faults : (all : List LineFacts) (end : List Line) → list_any has_fault (map (standing all) end) ≡ false → list_any (λ x. is_error x.kind) end ≡ false
+pub no-faults : (all : List LineFacts) (end : List Line) → list_any has_fault (map (standing all) end) ≡ false → list_any (λ x. is_error x.kind) end ≡ false
 no-faults all [] h = refl
 no-faults all (x ∷ end) h = go (is_error x.kind) refl (no-faults all end)
   where

@@ -1,12 +1,13 @@
 -- What follows from the definition: each list of lines comes to one without faulty lines, and to one alone; lines without a fault stay as
--- they are; faults come in the order of the text; and error lines stand in blocks that are open (this project's own laws).
-use Rattle.std.specs.Prelude.{◌≡◌, ◌≤◌, ◌<◌, ◌==◌, ◌+◌, ℕ, None, nat_le, Bool, true, false, ◌&&◌, ◌||◌, List, [], ◌∷◌}
+-- they are, and those with one don't; faults come in the order of the text; and error lines stand in blocks that are open (this project's
+-- own laws).
+use Rattle.std.specs.Prelude.{◌≡◌, ◌↔◌, ◌≤◌, ◌<◌, ◌==◌, ◌+◌, ℕ, None, nat_le, Bool, true, false, ◌&&◌, ◌||◌, List, [], ◌∷◌, map, length}
 use Rattle.std.specs.Option.{is_some}
 use Rattle.std.specs.List.{list_any}
 use Rattle.py_blocks.specs.declared.fault.StandingLine.{StandingLine}
 use Rattle.py_blocks.specs.declared.line.Line.{Line}
-use Rattle.py_blocks.specs.Facts.{Row}
-use Rattle.py_blocks.specs.Faults.{IsNesting}
+use Rattle.py_blocks.specs.Facts.{Row, facts_of}
+use Rattle.py_blocks.specs.Faults.{lines_seen, IsNesting}
 use Rattle.py_blocks.specs.Lines.{is_error, opens_one, nearest}
 use Rattle.py_blocks.specs.Rules.{is_faulty}
 use Rattle.py_blocks.specs.Settling.{onto, Settles, fault_places}
@@ -42,6 +43,40 @@ has_fault standing = is_some standing.fault
 -- a nesting without error lines is the text's lines as they are written
 abbrev pub FaultlessNesting : Type 0
 FaultlessNesting = (rows : List Row) (nesting : List StandingLine) → IsNesting rows nesting → list_any has_fault nesting ≡ false → nesting ≡ written rows 0
+
+-- ---- a text and its nesting
+
+-- no text has two nestings
+abbrev pub OneNesting : Type 0
+OneNesting = (rows : List Row) (a b : List StandingLine) → IsNesting rows a → IsNesting rows b → a ≡ b
+
+-- each is one of so many lines
+abbrev pub AreWithin : ℕ → List StandingLine → Type 0
+AreWithin count [] = Unit {0}
+AreWithin count (standing ∷ others) = (standing.line < count) × AreWithin count others
+
+-- each line of a nesting is one of the text's
+abbrev pub NestingWithin : Type 0
+NestingWithin = (rows : List Row) (nesting : List StandingLine) → IsNesting rows nesting → AreWithin (length rows) nesting
+
+-- no line of a text is faulty, each between the others
+abbrev pub AreFaultless : List Row → Type 0
+AreFaultless rows = (before behind : List Line) (x : Line) → onto before (x ∷ behind) ≡ lines_seen (map facts_of rows) → is_faulty before x behind ≡ false
+
+-- a nesting has no error line exactly where no line of the text is faulty
+abbrev pub FaultlessExactly : Type 0
+FaultlessExactly = (rows : List Row) (nesting : List StandingLine) → IsNesting rows nesting → (list_any has_fault nesting ≡ false) ↔ AreFaultless rows
+
+-- lines with a tree, and without a token fault
+abbrev pub AreRead : List Row → Type 0
+AreRead [] = Unit {0}
+AreRead (row ∷ rows) = (row.fault ≡ None) × (is_some row.tree ≡ true) × AreRead rows
+
+-- where no line is faulty, each has a tree
+abbrev pub FaultlessRead : Type 0
+FaultlessRead = (rows : List Row) → AreFaultless rows → AreRead rows
+
+-- ---- the order of faults
 
 abbrev pub AllAbove : ℕ → List ℕ → Type 0
 AllAbove place [] = Unit {0}

@@ -1,6 +1,6 @@
 //! What follows from what the lines without faulty ones are. The functions do nothing, and their contracts are
 //! laws.
-ghost use Rattle.py_blocks.specs.Laws.{EachSettles, SettlesOnce, NoneIsFaulty, FaultlessStay, FaultlessEnd, FaultlessNesting, FaultsInOrder, NearestIsOpen};
+ghost use Rattle.py_blocks.specs.Laws.{EachSettles, SettlesOnce, NoneIsFaulty, FaultlessStay, FaultlessEnd, FaultlessNesting, OneNesting, NestingWithin, FaultlessExactly, FaultlessRead, FaultsInOrder, NearestIsOpen};
 
 /// Every list of lines comes to one without faulty lines.
 pub fn each_settles()
@@ -30,6 +30,26 @@ pub fn faultless_end()
 /// A nesting without error lines is the lines of the text as they are written.
 pub fn faultless_nesting()
     ensures { FaultlessNesting }
+{}
+
+/// No text has two nestings.
+pub fn one_nesting()
+    ensures { OneNesting }
+{}
+
+/// Each line of a nesting is one of the text's.
+pub fn nesting_within()
+    ensures { NestingWithin }
+{}
+
+/// A nesting has no error line exactly where no line of the text is faulty.
+pub fn faultless_exactly()
+    ensures { FaultlessExactly }
+{}
+
+/// Where no line is faulty, each has a tree and no token fault.
+pub fn faultless_read()
+    ensures { FaultlessRead }
 {}
 
 /// Faults come in the order of the text.

@@ -1,5 +1,5 @@
 -- The nodes that occurrences name are nodes of the tree.
-use Rattle.std.proofs.Common.{◌≡◌, ℕ, zero, suc, ◌+◌, ◌-◌, ◌<◌, ◌≤◌, Bool, true, false, List, [], ◌∷◌, ◌++◌, length, refl, sym, subst, arith, if◌then◌else◌}
+use Rattle.std.proofs.Common.{◌≡◌, ℕ, zero, suc, ◌+◌, ◌<◌, ◌≤◌, Bool, true, false, List, [], ◌∷◌, ◌++◌, length, refl, sym, subst, arith, if◌then◌else◌}
 use Rattle.std.specs.Prelude.{Option, Some, None, IfSome, fold, filter_map, slice_get, bytes_eq, codes, nat_lt, ◌&&◌}
 use Rattle.std.specs.List.{cons_option}
 use Rattle.std.proofs.lemmas.List.Elements.{filter_map-append}
@@ -7,6 +7,7 @@ use Rattle.std.proofs.lemmas.Option.{slice_get_within}
 use Rattle.py_base.specs.declared.ids.NodeId.{NodeId}
 use Rattle.py_base.specs.declared.ids.NameId.{NameId}
 use Rattle.py_base.specs.declared.node.Node.{Node}
+use Rattle.py_base.specs.Nodes.{parts_or_none, parts_at}
 use Rattle.py_base.specs.Tree.{Arena, AreOlder, IsLinked}
 use Rattle.py_base.specs.TreeLaws.{AreLinked-at}
 use Rattle.py_scopes.specs.declared.way.Step.{Step}
@@ -15,10 +16,10 @@ use Rattle.py_scopes.specs.declared.occurrence.Role.{Role}
 use Rattle.py_scopes.specs.declared.occurrence.Role.TheVariants as roles
 use Rattle.py_scopes.specs.declared.occurrence.Annotation.{Annotation}
 use Rattle.py_scopes.specs.declared.occurrence.Occurrence.{Occurrence}
-use Rattle.py_scopes.specs.Kinds.{is_attribute, is_global, is_nonlocal, is_annotated}
+use Rattle.py_scopes.specs.Kinds.{is_attribute, is_global, is_nonlocal, is_annotated, gives_value, star_of}
 use Rattle.py_scopes.specs.Way.{step_out, go_on, steps, way_out}
 use Rattle.py_scopes.specs.Scopes.{kind_around}
-use Rattle.py_scopes.specs.Occurrences.{binder, counts, is_group, target_way, target_binder, is_first_parameter, text_of, parts_of, name_of, object_of, read_by, static_or, static_at, role_by, role_of, some_binder, annotation_of, annotation_by, occurrence_on, occurrence_if, leaf_name, occurrence_at, first_ids, occurrences}
+use Rattle.py_scopes.specs.Occurrences.{binder, counts, is_group, target_way, target_binder, is_first_parameter, def_name, is_init, text_of, name_of, object_of, read_by, static_or, static_at, role_by, role_of, some_binder, annotation_of, annotation_by, occurrence_on, occurrence_if, leaf_name, occurrence_at, first_ids, occurrences}
 use Rattle.py_scopes.specs.Table.{is_bound_at, annotation_at, earlier, earliest, declaration, bound_node, binding_at, bindings}
 use Rattle.py_scopes.specs.Tables.{IsBelow, AreBelow}
 use Rattle.py_scopes.proofs.Outward.{around-within}
@@ -73,7 +74,7 @@ role-below a n static way h = go (binder way)
     named false true r k = λ id lt. lt
     named false false r k = k
 
-    bound : (b : Bool) → IsRoleBelow n (if b then roles.FirstParameter else roles.Binding)
+    bound : (b : Bool) → IsRoleBelow n (if b then roles.FirstParameter (is_init a (def_name a way)) else roles.Binding)
     bound true = λ id lt. lt
     bound false = λ id lt. lt
 
@@ -87,23 +88,23 @@ older-at n [] i id h e = absurd (cc e)
 older-at n (x ∷ ids) zero id h e = let same : x ≡ id = cc e in subst (λ y. y.0 < n) same h.0
 older-at n (x ∷ ids) (suc i) id h e = older-at n ids i id h.1 e
 
-part-below : (a : Arena) → IsLinked a → (k i : ℕ) (id : NodeId) → slice_get (parts_of (slice_get a.nodes k)) i ≡ Some id → id.0 < length a.nodes
-part-below a linked k i id e = go (slice_get a.nodes k) refl e
+part-below : (a : Arena) → IsLinked a → (k : NodeId) (i : ℕ) (id : NodeId) → slice_get (parts_at a.nodes k) i ≡ Some id → id.0 < length a.nodes
+part-below a linked k i id e = go (slice_get a.nodes k.0) refl e
   where
-    go : (o : Option Node) → slice_get a.nodes k ≡ o → slice_get (parts_of o) i ≡ Some id → id.0 < length a.nodes
+    go : (o : Option Node) → slice_get a.nodes k.0 ≡ o → slice_get (parts_or_none o) i ≡ Some id → id.0 < length a.nodes
     go None f h = absurd (cc h)
-    go (Some n) f h = let lt = older-at (0 + k) n.parts i id (AreLinked-at (length a.names) 0 k a.nodes n linked f).0 h in let within = slice_get_within a.nodes k n f in omega (arith, lt, within)
+    go (Some n) f h = let lt = older-at (0 + k.0) n.parts i id (AreLinked-at (length a.names) 0 k.0 a.nodes n linked f).0 h in let within = slice_get_within a.nodes k.0 n f in omega (arith, lt, within)
 
 annotation-below : (a : Arena) → IsLinked a → (b : Option Step) → IfSome (annotation_by a b) (λ x. x.node.0 < length a.nodes)
 annotation-below a linked None = tt
 annotation-below a linked (Some b) = go (is_annotated b.kind b.parts)
   where
-    found : (p : Option NodeId) → slice_get (parts_of (slice_get a.nodes b.around.0)) 1 ≡ p → IfSome (annotation_of a p) (λ x. x.node.0 < length a.nodes)
+    found : (p : Option NodeId) → slice_get (parts_at a.nodes b.around) 1 ≡ p → IfSome (annotation_of a (star_of b.kind) p) (λ x. x.node.0 < length a.nodes)
     found None e = tt
-    found (Some id) e = part-below a linked b.around.0 1 id e
+    found (Some id) e = part-below a linked b.around 1 id e
 
-    go : (c : Bool) → IfSome (if c then annotation_of a (slice_get (parts_of (slice_get a.nodes b.around.0)) 1) else None) (λ x. x.node.0 < length a.nodes)
-    go true = found (slice_get (parts_of (slice_get a.nodes b.around.0)) 1) refl
+    go : (c : Bool) → IfSome (if c then annotation_of a (star_of b.kind) (slice_get (parts_at a.nodes b.around) 1) else None) (λ x. x.node.0 < length a.nodes)
+    go true = found (slice_get (parts_at a.nodes b.around) 1) refl
     go false = tt
 
 occurrence-below : (a : Arena) → IsLinked a → (id : NodeId) → id.0 < length a.nodes → IfSome (occurrence_at a id) (IsBelow (length a.nodes))
@@ -144,7 +145,7 @@ occurrences-below a all linked e = subst (AreBelow (length a.nodes)) (sym e) (be
 
 bindings-among : (all : List Occurrence) (x : Symbol) (n : ℕ) (rest : List Occurrence) → AreBelow n rest → AreOlder n (filter_map (binding_at all x) rest)
 bindings-among all x n [] h = tt
-bindings-among all x n (o ∷ os) h = go (is_bound_at all x o && o.valued) (bindings-among all x n os h.1)
+bindings-among all x n (o ∷ os) h = go (is_bound_at all x o && gives_value o.effect) (bindings-among all x n os h.1)
   where
     go : (b : Bool) → AreOlder n (filter_map (binding_at all x) os) → AreOlder n (cons_option (if b then Some (bound_node o.node o.role) else None) (filter_map (binding_at all x) os))
     go true k = (h.0.0, k)
@@ -175,9 +176,9 @@ earlier-below n x (y ∷ ys) h k = earlier-below n (earlier x y) ys (one (nat_lt
     one true = k.0
     one false = h
 
-earliest-below : (n : ℕ) (ys : List Annotation) → AreAnnotationsBelow n ys → IfSome (earliest ys) (λ id. id.0 < n)
+earliest-below : (n : ℕ) (ys : List Annotation) → AreAnnotationsBelow n ys → IfSome (earliest ys) (λ y. y.node.0 < n)
 earliest-below n [] h = tt
 earliest-below n (y ∷ ys) h = earlier-below n y ys h.0 h.1
 
-pub declaration-below : (all : List Occurrence) (n : ℕ) → AreBelow n all → (x : Symbol) → IfSome (declaration all x) (λ id. id.0 < n)
+pub declaration-below : (all : List Occurrence) (n : ℕ) → AreBelow n all → (x : Symbol) → IfSome (declaration all x) (λ y. y.node.0 < n)
 declaration-below all n h x = earliest-below n (filter_map (annotation_at all x) all) (annotations-among all x n all h)

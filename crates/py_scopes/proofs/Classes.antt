@@ -48,7 +48,7 @@ static-role d (roles.Static e) None = nat_eq_equiv.symm d.0 e.0 ∙ and-true (e.
 static-role d (roles.Static e) (Some x) = and-false (e.0 == d.0)
 static-role d (roles.Object t m) x = refl
 static-role d roles.Binding x = refl
-static-role d roles.FirstParameter x = refl
+static-role d (roles.FirstParameter b) x = refl
 static-role d roles.Global x = refl
 static-role d roles.Nonlocal x = refl
 

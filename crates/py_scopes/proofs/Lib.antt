@@ -1,5 +1,6 @@
 pub mod Below
 pub mod Classes
+pub mod Nodes
 pub mod Outward
 pub mod Passes
 pub mod Sets

@@ -1,6 +1,6 @@
 -- The steps outward from all nodes by one pass over them.
 use Rattle.std.proofs.Common.{◌≡◌, ℕ, zero, suc, ◌+◌, ◌<◌, ◌≤◌, ◌==◌, Bool, true, false, List, [], ◌∷◌, ◌++◌, length, drop, map, refl, sym, ap, subst, ◌∙◌, arith, true≢false, if◌then◌else◌, inl, inr}
-use Rattle.std.specs.Prelude.{Option, Some, None, IfSome, option_map, slice_get, slice_set, position}
+use Rattle.std.specs.Prelude.{Option, Some, None, option_map, slice_get, slice_set, position}
 use Rattle.std.specs.List.{position_from}
 use Rattle.std.proofs.Math.ListN.{drop_of_length-le}
 use Rattle.std.proofs.lemmas.Bool.{eqb-true, eq-eqb, cases_lt}
@@ -9,6 +9,7 @@ use Rattle.std.proofs.lemmas.List.{length-map}
 use Rattle.std.proofs.lemmas.Option.{slice_get_within, slice_get_past, slice_get_cases, slice_get-map}
 use Rattle.py_base.specs.declared.ids.NodeId.{NodeId}
 use Rattle.py_base.specs.declared.node.Node.{Node}
+use Rattle.py_base.specs.Tree.{Arena, AreOlder, AreLinked, IsLinked}
 use Rattle.py_scopes.specs.declared.way.Step.{Step}
 use Rattle.py_scopes.specs.Way.{same_node, step_from, step_if, step_among, step_out}
 use Rattle.py_scopes.specs.Occurrences.{first_ids}
@@ -213,10 +214,21 @@ pub step-is : (nodes : List Node) (id : NodeId) (table : List (Option Step)) (s 
     → s ≡ step_out nodes id
 step-is nodes id table s e lt h = let k = table-step nodes id table e lt in cc (h, k)
 
-step-within : (nodes : List Node) (id : NodeId) (s : Option Step) → s ≡ step_out nodes id → IfSome s (λ x. x.around.0 < length nodes)
-step-within nodes id None e = tt
-step-within nodes id (Some x) e = around-within nodes id x (sym e)
+-- no node has a part that is newer than all
 
-pub step-ends : (nodes : List Node) (id : NodeId) (table : List (Option Step)) (s : Option Step) → table ≡ map (step_out nodes) (first_ids (length nodes)) → id.0 < length nodes → slice_get table id.0 ≡ Some s
-    → IfSome s (λ x. x.around.0 < length nodes)
-step-ends nodes id table s e lt h = step-within nodes id s (step-is nodes id table s e lt h)
+no-place : (m k : ℕ) (ps : List NodeId) (id : NodeId) → AreOlder k ps → k ≤ id.0 → position_from (λ p. same_node p id) m ps ≡ None
+no-place m k [] id h le = refl
+no-place m k (p ∷ ps) id h le = go (p.0 == id.0) refl (no-place (m + 1) k ps id h.1 le)
+  where
+    go : (b : Bool) → (p.0 == id.0) ≡ b → position_from (λ q. same_node q id) (m + 1) ps ≡ None → position_from (λ q. same_node q id) m (p ∷ ps) ≡ None
+    go true e rest = let same = eqb-true p.0 id.0 e in let lt : p.0 < k = h.0 in absurd (omega (arith, same, lt, le))
+    go false e rest = ap (λ b. if b then Some m else position_from (λ q. same_node q id) (m + 1) ps) e ∙ rest
+
+none-among : (names at : ℕ) (nodes ns : List Node) (id : NodeId) → AreLinked names at ns → at + length ns ≤ id.0 → step_among nodes id at ns ≡ None
+none-among names at nodes [] id h le = refl
+none-among names at nodes (n ∷ ns) id h le =
+    ap (λ q. step_if nodes at n q (step_among nodes id (suc at) ns)) (position_from-zero (λ p. same_node p id) n.parts ∙ no-place 0 at n.parts id h.0 (omega arith))
+    ∙ none-among names (suc at) nodes ns id h.2 (omega arith)
+
+pub none-beyond : (a : Arena) (id : NodeId) → IsLinked a → length a.nodes ≤ id.0 → step_out a.nodes id ≡ None
+none-beyond a id linked le = none-among (length a.names) 0 a.nodes a.nodes id linked (omega arith)

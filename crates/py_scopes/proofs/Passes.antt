@@ -4,11 +4,11 @@ use Rattle.std.specs.Prelude.{Option, Some, None, Result, Ok, Err, OnOk, fold, f
 use Rattle.std.specs.Option.{option_to_list}
 use Rattle.std.specs.List.{cons_option, position_from, IsDistinct}
 use Rattle.std.proofs.lemmas.Bool.{eqb-true, cases_lt}
-use Rattle.std.proofs.lemmas.List.{append-nil, length-map}
+use Rattle.std.proofs.lemmas.List.{append-nil}
 use Rattle.std.proofs.lemmas.List.Quantifiers.{position-Some}
 use Rattle.std.proofs.lemmas.Map.Keys.{apart_from_distinct}
 use Rattle.std.proofs.lemmas.Iterator.Adapters.{position_from-zero}
-use Rattle.std.proofs.lemmas.Option.{slice_get_within, slice_get-map, slice_get_past, get_or_from_slice_get}
+use Rattle.std.proofs.lemmas.Option.{slice_get_within, slice_get_past, get_or_from_slice_get}
 use Rattle.std.proofs.Math.Nat.{eq-or-lt_of_le}
 use Rattle.py_base.specs.declared.ids.NodeId.{NodeId}
 use Rattle.py_base.specs.declared.ids.NameId.{NameId}
@@ -16,13 +16,14 @@ use Rattle.py_base.specs.declared.ids.SymId.{SymId}
 use Rattle.py_scopes.specs.declared.scope.Symbol.{Symbol}
 use Rattle.py_scopes.specs.declared.occurrence.Annotation.{Annotation}
 use Rattle.py_scopes.specs.declared.occurrence.Occurrence.{Occurrence}
+use Rattle.py_scopes.specs.Kinds.{gives_value}
 use Rattle.py_scopes.specs.Scopes.{is_class}
 use Rattle.py_scopes.specs.Occurrences.{first_ids}
 use Rattle.py_scopes.specs.Owner.{same_symbol}
 use Rattle.py_scopes.specs.Members.{bound_symbol}
 use Rattle.py_scopes.specs.Same.{symbol_equiv}
 use Rattle.py_scopes.specs.Table.{number_of, is_symbol, is_bound_at, annotation_at, earlier, earliest, declaration, bound_node, binding_at, bindings, is_member, members_from}
-use Rattle.py_scopes.specs.Tables.{number_if, number_bound, put_at, PutsAt, no_items, no_annotation, binding_to, AddsBinding, earliest_to, earliest_with, annotation_to, AddsAnnotation, node_of, member_to, AddsMember}
+use Rattle.py_scopes.specs.Tables.{number_if, number_bound, put_at, PutsAt, no_items, no_annotation, binding_to, AddsBinding, earliest_to, earliest_with, annotation_to, AddsAnnotation, member_to, AddsMember}
 use Rattle.py_scopes.proofs.Walks.{drop-next}
 use Rattle.py_scopes.proofs.Outward.{get-set_same, get-set_other, apart, get-made, made-by-get, map-twice}
 
@@ -92,29 +93,29 @@ puts-at {X} k x old item pushed here made i = go (k == i) refl
 
 -- bindings
 
-no-binding : (all : List Occurrence) (o : Occurrence) (x : Symbol) → (is_bound_at all x o && o.valued) ≡ false → (l : List NodeId) → l ≡ binding_to all o x l
+no-binding : (all : List Occurrence) (o : Occurrence) (x : Symbol) → (is_bound_at all x o && gives_value o.effect) ≡ false → (l : List NodeId) → l ≡ binding_to all o x l
 no-binding all o x e l = sym (append-nil l) ∙ ap (λ b. l ++ option_to_list (if b then Some (bound_node o.node o.role) else None)) (sym e)
 
 and-false : (a : Bool) → (a && false) ≡ false
 and-false true = refl
 and-false false = refl
 
-pub adds-unvalued : (all : List Occurrence) (numbers : List Symbol) (o : Occurrence) (old : List (List NodeId)) → o.valued ≡ false → AddsBinding all numbers o old old
+pub adds-unvalued : (all : List Occurrence) (numbers : List Symbol) (o : Occurrence) (old : List (List NodeId)) → gives_value o.effect ≡ false → AddsBinding all numbers o old old
 adds-unvalued all numbers o old e i x h =
     map-same (binding_to all o x) (no-binding all o x (ap (λ v. is_bound_at all x o && v) e ∙ and-false (is_bound_at all x o))) (slice_get old i)
 
 pub adds-unbound : (all : List Occurrence) (numbers : List Symbol) (o : Occurrence) (old : List (List NodeId)) → IsDistinct same_symbol numbers → number_bound all numbers o ≡ None → AddsBinding all numbers o old old
 adds-unbound all numbers o old unique e i x h =
-    map-same (binding_to all o x) (no-binding all o x (ap (λ b. b && o.valued) (bound-number all numbers o unique x i h ∙ ap (is_number i) e))) (slice_get old i)
+    map-same (binding_to all o x) (no-binding all o x (ap (λ b. b && gives_value o.effect) (bound-number all numbers o unique x i h ∙ ap (is_number i) e))) (slice_get old i)
 
 map-pointwise : {X Y : Type 0} (f g : X → Y) → ((x : X) → f x ≡ g x) → (o : Option X) → option_map f o ≡ option_map g o
 map-pointwise f g e None = refl
 map-pointwise f g e (Some x) = ap Some (e x)
 
-pub adds-bound : (all : List Occurrence) (numbers : List Symbol) (o : Occurrence) (k : ℕ) (old new : List (List NodeId)) → IsDistinct same_symbol numbers → number_bound all numbers o ≡ Some k → o.valued ≡ true
+pub adds-bound : (all : List Occurrence) (numbers : List Symbol) (o : Occurrence) (k : ℕ) (old new : List (List NodeId)) → IsDistinct same_symbol numbers → number_bound all numbers o ≡ Some k → gives_value o.effect ≡ true
     → PutsAt k (bound_node o.node o.role) old new → AddsBinding all numbers o old new
 adds-bound all numbers o k old new unique e valued puts i x h =
-    puts i ∙ map-pointwise (put_at k (bound_node o.node o.role) i) (binding_to all o x) (λ l. one (k == i) (is_bound_at all x o) o.valued (bound-number all numbers o unique x i h ∙ ap (is_number i) e) valued l) (slice_get old i)
+    puts i ∙ map-pointwise (put_at k (bound_node o.node o.role) i) (binding_to all o x) (λ l. one (k == i) (is_bound_at all x o) (gives_value o.effect) (bound-number all numbers o unique x i h ∙ ap (is_number i) e) valued l) (slice_get old i)
   where
     one : (b c v : Bool) → c ≡ b → v ≡ true → (l : List NodeId) → (if b then l ++ bound_node o.node o.role ∷ [] else l) ≡ l ++ option_to_list (if (c && v) then Some (bound_node o.node o.role) else None)
     one true c v f g l = ap (λ a. l ++ option_to_list (if a then Some (bound_node o.node o.role) else None)) (sym (λ j. f j && g j))
@@ -218,17 +219,16 @@ from-first : (x : Annotation) (ys : List Annotation) → fold stand_first (Some 
 from-first x [] = refl
 from-first x (y ∷ ys) = from-first (earlier x y) ys
 
-first-node : (ys : List Annotation) → node_of (fold stand_first None ys) ≡ earliest ys
-first-node [] = refl
-first-node (y ∷ ys) = ap node_of (from-first y ys)
+first-of : (ys : List Annotation) → fold stand_first None ys ≡ earliest ys
+first-of [] = refl
+first-of (y ∷ ys) = from-first y ys
 
 pub annotations-end : (all rest : List Occurrence) (numbers : List Symbol) (now : List (Option Annotation)) → rest ≡ [] → length now ≡ length numbers → AnnotationsFrom all numbers rest now
-    → map node_of now ≡ map (declaration all) numbers
-annotations-end all rest numbers now done count before = made-of-items (declaration all) numbers (map node_of now) (length-map now node_of ∙ count) (λ i x h.
-    slice_get-map node_of now i
-    ∙ ap (option_map node_of) (map-same (λ a. fold stand_first a []) (λ a. refl) (slice_get now i)
-    ∙ ap (λ s. option_map (λ a. fold stand_first a (filter_map (annotation_at all x) s)) (slice_get now i)) (sym done) ∙ before i x h)
-    ∙ ap Some (first-node (filter_map (annotation_at all x) all)))
+    → now ≡ map (declaration all) numbers
+annotations-end all rest numbers now done count before = made-of-items (declaration all) numbers now count (λ i x h.
+    map-same (λ a. fold stand_first a []) (λ a. refl) (slice_get now i)
+    ∙ ap (λ s. option_map (λ a. fold stand_first a (filter_map (annotation_at all x) s)) (slice_get now i)) (sym done) ∙ before i x h
+    ∙ ap Some (first-of (filter_map (annotation_at all x) all)))
 
 -- members
 
@@ -284,7 +284,7 @@ on-ok f (Ok t) h = f h
 on-ok f (Err e) h = tt
 
 pub adds-put : {T E : Type 0} (all : List Occurrence) (numbers : List Symbol) (o : Occurrence) (k : ℕ) (node : NodeId) (old new : List (List NodeId)) (r : Result T E) → IsDistinct same_symbol numbers
-    → number_bound all numbers o ≡ Some k → o.valued ≡ true → node ≡ bound_node o.node o.role → OnOk r (PutsAt k node old new) → OnOk r (AddsBinding all numbers o old new)
+    → number_bound all numbers o ≡ Some k → gives_value o.effect ≡ true → node ≡ bound_node o.node o.role → OnOk r (PutsAt k node old new) → OnOk r (AddsBinding all numbers o old new)
 adds-put all numbers o k node old new r unique e valued same h =
     on-ok (λ puts. adds-bound all numbers o k old new unique e valued (subst (λ m. PutsAt k m old new) same puts)) r h
 

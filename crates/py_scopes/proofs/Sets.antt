@@ -14,8 +14,9 @@ use Rattle.py_scopes.specs.declared.occurrence.Role.{Role}
 use Rattle.py_scopes.specs.declared.occurrence.Occurrence.{Occurrence}
 use Rattle.py_scopes.specs.Scopes.{is_innermost}
 use Rattle.py_scopes.specs.Owner.{same_name, same_symbol, says, is_binding, home, belongs}
+use Rattle.py_scopes.specs.Members.{hider_at, with_symbol}
 use Rattle.py_scopes.specs.Same.{symbol_equiv}
-use Rattle.py_scopes.specs.Tables.{symbol_in, said_at, names_said, HasSaid, symbol_at, all_symbols, HasSymbols}
+use Rattle.py_scopes.specs.Tables.{symbol_in, said_at, names_said, HasSaid, symbol_at, all_symbols, HasSymbols, HasHiders}
 
 or-false : (a : Bool) → a ≡ (a || false)
 or-false true = refl
@@ -96,3 +97,6 @@ symbol-here all x o = go (is_binding o.role)
 
 pub has-symbols : (all : List Occurrence) (keys : List Symbol) → keys ≡ all_symbols all → HasSymbols all keys
 has-symbols all keys e x = table-answers symbol_equiv (symbol_at all) (belongs all x.scope x.name) x (symbol-here all x) all keys e
+
+pub has-hiders : (all : List Occurrence) (keys : List Symbol) → keys ≡ fold with_symbol [] (filter_map (hider_at all) all) → HasHiders all keys
+has-hiders all keys e x = ap (list_any (same_symbol x)) e ∙ any-inserted symbol_equiv x (filter_map (hider_at all) all) []

@@ -1,8 +1,12 @@
 -- What a form does with the names in its parts: which parts it binds, to which it hands on that they are bound, which only spell a name
 -- (Python 3.12 language reference, 4.2.1, "Binding of names"; 8.6 for patterns; 7.11 for imports).
-use Rattle.std.specs.Prelude.{ℕ, ◌==◌, ◌-◌, nat_lt, Bool, true, false, not, ◌&&◌}
+use Rattle.std.specs.Prelude.{ℕ, ◌==◌, ◌-◌, nat_lt, Bool, true, false, not, ◌&&◌, if◌then◌else◌}
 use Rattle.py_base.specs.declared.node.NodeKind.{NodeKind}
 use Rattle.py_base.specs.declared.node.NodeKind.TheVariants as kinds
+use Rattle.py_scopes.specs.declared.roles.NameRole.{NameRole}
+use Rattle.py_scopes.specs.declared.roles.NameRole.TheVariants as name_roles
+use Rattle.py_scopes.specs.declared.occurrence.Star.{Star}
+use Rattle.py_scopes.specs.declared.occurrence.Star.TheVariants as stars
 
 -- The i-th of n parts is bound by a node of the kind. Where such a part is no name, what is in it is bound only as far as it hands on.
 abbrev pub binds_part : NodeKind → ℕ → ℕ → Bool
@@ -93,6 +97,27 @@ is_for kinds.ComprehensionFor = true
 is_for kinds.AsyncComprehensionFor = true
 is_for _ = false
 
+-- what a list of type parameters belongs to
+abbrev pub takes_types : NodeKind → Bool
+takes_types kinds.DefStatement = true
+takes_types kinds.ClassStatement = true
+takes_types kinds.TypeAlias = true
+takes_types _ = false
+
+-- the headers among whose parts it stands
+abbrev pub takes_list : NodeKind → Bool
+takes_list kinds.Def = true
+takes_list kinds.Class = true
+takes_list _ = false
+
+abbrev pub is_async : NodeKind → Bool
+is_async kinds.Async = true
+is_async _ = false
+
+abbrev pub is_type_list : NodeKind → Bool
+is_type_list kinds.TypeParameters = true
+is_type_list _ = false
+
 abbrev pub is_case : NodeKind → Bool
 is_case kinds.Case = true
 is_case _ = false
@@ -129,11 +154,42 @@ makes_member kinds.Del = false
 makes_member kinds.Case = false
 makes_member _ = true
 
--- Of n parts. `del` gives no value, nor does an annotation alone.
-abbrev pub gives_value : NodeKind → ℕ → Bool
-gives_value kinds.Del n = false
-gives_value kinds.AnnotatedAssign n = not (n == 2)
-gives_value _ n = true
+-- an annotation alone is two parts
+abbrev pub annotated_as : ℕ → NameRole
+annotated_as n = if n == 2 then name_roles.Annotated else name_roles.Bound
+
+-- the role of a name, or of a target, that a node of the kind with n parts binds (7.2, 7.2.1 and 7.2.2, 7.5, 7.14, 8.10)
+abbrev pub bound_as : NodeKind → ℕ → NameRole
+bound_as kinds.Del n = name_roles.Deleted
+bound_as kinds.AnnotatedAssign n = annotated_as n
+bound_as kinds.AugmentedAssign n = name_roles.Augmented
+bound_as kinds.TypeAlias n = name_roles.TypeName
+bound_as kinds.TypeParameters n = name_roles.TypeName
+bound_as kinds.TypeParameter n = name_roles.TypeName
+bound_as kinds.StarTypeParameter n = name_roles.TypeName
+bound_as kinds.DoubleStarTypeParameter n = name_roles.TypeName
+bound_as _ n = name_roles.Bound
+
+-- `del` gives no value, nor does an annotation alone
+abbrev pub gives_value : NameRole → Bool
+gives_value name_roles.Bound = true
+gives_value name_roles.Augmented = true
+gives_value name_roles.TypeName = true
+gives_value _ = false
+
+abbrev pub is_augmented : NameRole → Bool
+is_augmented name_roles.Augmented = true
+is_augmented _ = false
+
+-- the stars before a parameter
+abbrev pub star_of : NodeKind → Star
+star_of kinds.StarParameter = stars.Single
+star_of kinds.DoubleStarParameter = stars.Double
+star_of _ = stars.Plain
+
+abbrev pub is_def_header : NodeKind → Bool
+is_def_header kinds.Def = true
+is_def_header _ = false
 
 -- the annotation of what is bound is the second of n parts
 abbrev pub is_annotated : NodeKind → ℕ → Bool

@@ -6,17 +6,21 @@ use Rattle.py_base.specs.declared.ids.NodeId.{NodeId}
 use Rattle.py_base.specs.declared.ids.NameId.{NameId}
 use Rattle.py_base.specs.declared.node.NodeKind.{NodeKind}
 use Rattle.py_base.specs.declared.node.Node.{Node}
-use Rattle.py_base.specs.declared.node.Word.{Word}
-use Rattle.py_base.specs.declared.node.Word.TheVariants as words
 use Rattle.py_base.specs.declared.language_names.TheConstants.{BUILTIN_NAMES}
+use Rattle.py_base.specs.Nodes as shapes
+use Rattle.py_base.specs.Nodes.{span_at, parts_at}
+use Rattle.py_base.specs.declared.node.Word.{Word}
 use Rattle.py_base.specs.Tree.{Arena, name_at}
 use Rattle.py_scopes.specs.declared.way.Step.{Step}
 use Rattle.py_scopes.specs.declared.scope.Scope.{Scope}
 use Rattle.py_scopes.specs.declared.occurrence.Role.{Role}
 use Rattle.py_scopes.specs.declared.occurrence.Role.TheVariants as roles
+use Rattle.py_scopes.specs.declared.roles.NameRole.{NameRole}
+use Rattle.py_scopes.specs.declared.roles.NameRole.TheVariants as name_roles
+use Rattle.py_scopes.specs.declared.occurrence.Star.{Star}
 use Rattle.py_scopes.specs.declared.occurrence.Annotation.{Annotation}
 use Rattle.py_scopes.specs.declared.occurrence.Occurrence.{Occurrence}
-use Rattle.py_scopes.specs.Kinds.{binds_part, hands_on, spells_part, is_dotted, is_name, is_attribute, is_round, is_strings, is_case, is_named, is_global, is_nonlocal, is_decorator, is_parameters, is_long_parameter, makes_member, gives_value, is_annotated}
+use Rattle.py_scopes.specs.Kinds.{binds_part, hands_on, spells_part, is_dotted, is_name, is_attribute, is_round, is_strings, is_case, is_named, is_global, is_nonlocal, is_decorator, is_parameters, is_long_parameter, makes_member, bound_as, is_annotated, star_of, is_def_header}
 use Rattle.py_scopes.specs.Scopes.{scopes_along, kind_around, from_first, takes_named}
 use Rattle.py_scopes.specs.Way.{way_out}
 
@@ -79,27 +83,18 @@ is_first_parameter (s ∷ ss) = is_first_part (s ∷ ss) || (is_long_parameter s
 
 -- A name is its number: equal names of a tree have one.
 abbrev pub word_name : Word → Option NameId
-word_name (words.Name n) = Some n
-word_name _ = None
+word_name w = shapes.name_word w
 
 abbrev pub text_of : List (List ℕ) → NameId → List ℕ
 text_of names n = name_at names n.0
 
-abbrev pub word_of : Option Node → Option NameId
-word_of None = None
-word_of (Some n) = word_name n.word
-
-abbrev pub parts_of : Option Node → List NodeId
-parts_of None = []
-parts_of (Some n) = n.parts
-
-abbrev pub from_of : Option Node → ℕ
-from_of None = 0
-from_of (Some n) = n.span.from
-
 -- the name that a node's word is
 abbrev pub name_of : Arena → NodeId → Option NameId
-name_of a id = word_of (slice_get a.nodes id.0)
+name_of a id = shapes.name_of a.nodes id
+
+abbrev pub name_if : Arena → Option NodeId → Option NameId
+name_if a None = None
+name_if a (Some id) = name_of a id
 
 -- the target `p.m`, its `m` being the name
 abbrev pub object_of : NodeId → Option NameId → Role
@@ -125,9 +120,18 @@ read_role a staticmethod way =
     else (if is_nonlocal (kind_around way) then roles.Nonlocal
     else static_or (static_at staticmethod way) (read_by a (target_way way) (target_binder (target_way way))))
 
+-- the first name of the header of a def on the way
+abbrev pub def_name : Arena → List Step → Option NameId
+def_name a [] = None
+def_name a (s ∷ ss) = if is_def_header s.kind then name_if a (slice_get (parts_at a.nodes s.around) 0) else def_name a ss
+
+abbrev pub is_init : Arena → Option NameId → Bool
+is_init a None = false
+is_init a (Some n) = bytes_eq (text_of a.names n) (codes "__init__")
+
 abbrev pub role_by : Arena → Bool → List Step → Option Step → Role
 role_by a staticmethod way None = read_role a staticmethod way
-role_by a staticmethod way (Some b) = if is_first_parameter way then roles.FirstParameter else roles.Binding
+role_by a staticmethod way (Some b) = if is_first_parameter way then roles.FirstParameter (is_init a (def_name a way)) else roles.Binding
 
 -- WHAT A NAME IS THERE FOR
 abbrev pub role_of : Arena → Bool → List Step → Role
@@ -138,19 +142,19 @@ abbrev pub some_binder : List Step → Option Step → Option Step
 some_binder way None = target_binder (target_way way)
 some_binder way (Some b) = Some b
 
-abbrev pub valued_by : Option Step → Bool
-valued_by None = false
-valued_by (Some b) = gives_value b.kind b.parts
+abbrev pub effect_by : Option Step → NameRole
+effect_by None = name_roles.Read
+effect_by (Some b) = bound_as b.kind b.parts
 
-abbrev pub annotation_of : Arena → Option NodeId → Option Annotation
-annotation_of a None = None
-annotation_of a (Some id) = Some (record { node = id; from = from_of (slice_get a.nodes id.0) })
+abbrev pub annotation_of : Arena → Star → Option NodeId → Option Annotation
+annotation_of a star None = None
+annotation_of a star (Some id) = Some (record { node = id; from = (span_at a.nodes id).from; star = star })
 
 abbrev pub annotation_by : Arena → Option Step → Option Annotation
 annotation_by a None = None
-annotation_by a (Some b) = if is_annotated b.kind b.parts then annotation_of a (slice_get (parts_of (slice_get a.nodes b.around.0)) 1) else None
+annotation_by a (Some b) = if is_annotated b.kind b.parts then annotation_of a (star_of b.kind) (slice_get (parts_at a.nodes b.around) 1) else None
 
--- A named expression binds in the innermost scope that is neither a comprehension's nor of type parameters.
+-- A named expression binds in the innermost scope that isn't a comprehension's (6.12).
 abbrev pub scopes_for : List Step → List Scope
 scopes_for way = if of_kind is_named (binder way) then from_first takes_named (scopes_along way) else scopes_along way
 
@@ -161,10 +165,9 @@ abbrev pub occurrence_on : Arena → NodeId → NameId → List Step → Occurre
 occurrence_on a id name way = record {
   node = id;
   name = name;
-  builtin = is_builtin (text_of a.names name);
   role = role_of a (bytes_eq (text_of a.names name) (codes "staticmethod")) way;
   scopes = scopes_for way;
-  valued = valued_by (some_binder way (binder way));
+  effect = effect_by (some_binder way (binder way));
   annotation = annotation_by a (some_binder way (binder way));
 }
 
@@ -180,6 +183,22 @@ leaf_name (Some n) = if is_name n.kind then word_name n.word else None
 -- THE OCCURRENCE AT A NODE
 abbrev pub occurrence_at : Arena → NodeId → Option Occurrence
 occurrence_at a id = occurrence_if a id (way_out a.nodes id) (leaf_name (slice_get a.nodes id.0))
+
+-- what a name is there for, as those see it who ask of it alone
+abbrev pub seen_as : Role → NameRole → NameRole
+seen_as roles.Binding effect = effect
+seen_as (roles.FirstParameter init) effect = effect
+seen_as roles.Global effect = name_roles.Global
+seen_as roles.Nonlocal effect = name_roles.Nonlocal
+seen_as _ effect = name_roles.Read
+
+abbrev pub role_if : Option Occurrence → Option NameRole
+role_if None = None
+role_if (Some o) = Some (seen_as o.role o.effect)
+
+-- THE ROLE OF THE NAME AT A NODE, if it is a name there
+abbrev pub role_at : Arena → NodeId → Option NameRole
+role_at a id = role_if (occurrence_at a id)
 
 -- the first numbers of nodes
 abbrev pub first_ids : ℕ → List NodeId

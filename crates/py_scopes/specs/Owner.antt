@@ -15,7 +15,7 @@ same_name m n = m.0 == n.0
 
 abbrev pub is_binding : Role → Bool
 is_binding roles.Binding = true
-is_binding roles.FirstParameter = true
+is_binding (roles.FirstParameter init) = true
 is_binding _ = false
 
 abbrev pub is_global_name : Role → Bool

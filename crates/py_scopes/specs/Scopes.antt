@@ -10,13 +10,14 @@ use Rattle.py_scopes.specs.declared.scope.ScopeKind.TheVariants as scope
 use Rattle.py_scopes.specs.declared.scope.Scope.{Scope}
 use Rattle.py_scopes.specs.Kinds.{is_name}
 
--- A class, def, lambda or `type` statement stands in a scope of its type parameters, which is empty where it has none; its own scope, if it
--- has one, is inside of that. Both are told by its node.
+-- A class, def, lambda or `type` statement stands in the scope of its type parameters; its own scope, if it has one, is inside of that. Both
+-- are told by its node. Where no list of them is written, the place of that scope is still kept, and nothing is bound in it.
 abbrev pub opened : NodeId → ScopeKind → List Scope → List Scope
 opened node kind around = record { node = node; kind = kind } ∷ around
 
-abbrev pub typed : NodeId → List Scope → List Scope
-typed node around = opened node scope.TypeParameters around
+abbrev pub typed : Bool → NodeId → List Scope → List Scope
+typed true node around = opened node scope.TypeParameters around
+typed false node around = opened node scope.NoTypeParameters around
 
 -- inside the own scope of the form whose type parameters are the innermost scope
 abbrev pub owned : ScopeKind → List Scope → List Scope
@@ -28,10 +29,10 @@ abbrev pub outside : List Scope → List Scope
 outside ss = drop 1 ss
 
 -- Decorators stand outside of the statement, its block in its own scope, and its header goes on.
-abbrev pub in_statement : ScopeKind → NodeId → NodeKind → List Scope → List Scope
-in_statement kind node kinds.Decorator around = around
-in_statement kind node kinds.Block around = opened node kind (typed node around)
-in_statement kind node part around = typed node around
+abbrev pub in_statement : ScopeKind → Step → NodeKind → List Scope → List Scope
+in_statement kind s kinds.Decorator around = around
+in_statement kind s kinds.Block around = opened s.around kind (typed s.generic s.around around)
+in_statement kind s part around = typed s.generic s.around around
 
 -- The name of a def or class stands outside of it, what is behind the colon in its own scope, all else behind the type parameters.
 abbrev pub in_header : ScopeKind → NodeKind → List Scope → List Scope
@@ -42,7 +43,7 @@ in_header kind part around = around
 -- A lambda's body and the names of its parameters are in its own scope.
 abbrev pub in_lambda : Step → List Scope → List Scope
 in_lambda s around =
-    if s.part == s.parts - 1 || is_name s.inner then opened s.around scope.Lambda (typed s.around around) else typed s.around around
+    if s.part == s.parts - 1 || is_name s.inner then opened s.around scope.Lambda (typed false s.around around) else typed false s.around around
 
 -- whose parameter it is, by what stands around the parameter
 abbrev pub taker : NodeKind → ScopeKind
@@ -69,7 +70,7 @@ in_parameters part around = around
 
 -- the word `type` and the name of a `type` statement stand outside
 abbrev pub in_type_alias : Step → List Scope → List Scope
-in_type_alias s around = if nat_lt 1 s.part then typed s.around around else around
+in_type_alias s around = if nat_lt 1 s.part then typed s.generic s.around around else around
 
 -- Brackets with a `for` among them are a comprehension.
 abbrev pub is_comprehension : Step → Bool
@@ -89,8 +90,8 @@ in_for s ss around = if s.part == 1 && is_first_for ss then outside around else 
 -- the scopes around a part, where `around` are those around its node
 abbrev pub scopes_inside : NodeKind → Step → List Step → List Scope → List Scope
 scopes_inside kinds.Module s ss around = opened s.around scope.Module around
-scopes_inside kinds.ClassStatement s ss around = in_statement scope.Class s.around s.inner around
-scopes_inside kinds.DefStatement s ss around = in_statement scope.Def s.around s.inner around
+scopes_inside kinds.ClassStatement s ss around = in_statement scope.Class s s.inner around
+scopes_inside kinds.DefStatement s ss around = in_statement scope.Def s s.inner around
 scopes_inside kinds.Class s ss around = in_header scope.Class s.inner around
 scopes_inside kinds.Def s ss around = in_header scope.Def s.inner around
 scopes_inside kinds.Lambda s ss around = in_lambda s around
@@ -112,6 +113,7 @@ scopes_along (s ∷ ss) = scopes_inside s.kind s ss (scopes_along ss)
 -- Two scopes are one where their node is and both or neither are of type parameters: a node has no other two.
 abbrev pub is_of_types : ScopeKind → Bool
 is_of_types scope.TypeParameters = true
+is_of_types scope.NoTypeParameters = true
 is_of_types _ = false
 
 abbrev pub same_flag : Bool → Bool → Bool
@@ -153,7 +155,7 @@ hides_classes _ = false
 -- a named expression binds in the innermost of these
 abbrev pub takes_named : ScopeKind → Bool
 takes_named scope.Comprehension = false
-takes_named scope.TypeParameters = false
+takes_named scope.NoTypeParameters = false
 takes_named _ = true
 
 -- what stands in these and in no further one of them runs in their graph

@@ -19,7 +19,7 @@ use Rattle.py_scopes.specs.declared.occurrence.Occurrence.{Occurrence}
 use Rattle.py_scopes.specs.Way.{same_node, step_if, step_out}
 use Rattle.py_scopes.specs.Occurrences.{node_ids}
 use Rattle.py_scopes.specs.Owner.{is_binding, is_said, home, has_symbol, symbol_of, same_symbol}
-use Rattle.py_scopes.specs.Members.{is_first, is_static, class_of, bound_symbol, with_symbol}
+use Rattle.py_scopes.specs.Members.{is_first, is_static, class_of, hides, bound_symbol, with_symbol}
 use Rattle.py_scopes.specs.Table.{number_of, bound_node, binding_at, annotation_at, earlier, is_member}
 
 -- the step outward from each node
@@ -162,9 +162,13 @@ abbrev pub AddsAnnotation : List Occurrence → List Symbol → Occurrence → L
 AddsAnnotation all numbers o old new =
     (i : ℕ) (x : Symbol) → slice_get numbers i ≡ Some x → slice_get new i ≡ option_map (annotation_to all o x) (slice_get old i)
 
-abbrev pub node_of : Option Annotation → Option NodeId
-node_of None = None
-node_of (Some x) = Some x.node
+-- the occurrence of the given number, where it is at the node
+abbrev pub if_node : NodeId → Option Occurrence → Option Occurrence
+if_node id None = None
+if_node id (Some o) = if same_node o.node id then Some o else None
+
+abbrev pub HasHiders : List Occurrence → List Symbol → Type 0
+HasHiders all keys = (x : Symbol) → list_any (same_symbol x) keys ≡ hides all x
 
 -- the symbol goes to the end of the members of its class
 abbrev pub member_to : Symbol → SymId → ℕ → List (NameId × SymId) → List (NameId × SymId)

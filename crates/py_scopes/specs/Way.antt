@@ -1,23 +1,28 @@
 -- The way from a node outward: the nodes around it, the innermost first, each with the part of it that leads in. No standard speaks of it:
--- the arena of nodes is this project's own.
-use Rattle.std.specs.Prelude.{ℕ, zero, suc, ◌==◌, Bool, Option, Some, None, List, [], ◌∷◌, length, position, slice_get, slice_index_or}
-use Rattle.std.specs.List.{position_or_len}
+-- the arena of nodes is this project's own (8.10 of the Python 3.12 language reference says which forms are generic).
+use Rattle.std.specs.Prelude.{ℕ, zero, suc, ◌==◌, ◌&&◌, ◌||◌, Bool, Option, Some, None, List, [], ◌∷◌, length, position, slice_index_or}
+use Rattle.std.specs.List.{list_any, position_or_len}
 use Rattle.py_base.specs.declared.ids.NodeId.{NodeId}
 use Rattle.py_base.specs.declared.node.NodeKind.{NodeKind}
-use Rattle.py_base.specs.declared.node.NodeKind.TheVariants as kinds
 use Rattle.py_base.specs.declared.node.Node.{Node}
+use Rattle.py_base.specs.Nodes.{kind_at, parts_at}
 use Rattle.py_scopes.specs.declared.way.Step.{Step}
-use Rattle.py_scopes.specs.Kinds.{is_for}
+use Rattle.py_scopes.specs.Kinds.{is_for, takes_types, takes_list, is_async, is_type_list}
 
 abbrev pub same_node : NodeId → NodeId → Bool
 same_node x y = x.0 == y.0
 
-abbrev pub kind_or_fault : Option Node → NodeKind
-kind_or_fault None = kinds.Fault
-kind_or_fault (Some n) = n.kind
+-- a list of type parameters is among the parts
+abbrev pub has_list : List Node → NodeId → Bool
+has_list nodes id = list_any (λ p. is_type_list (kind_at nodes p)) (parts_at nodes id)
 
-abbrev pub kind_at : List Node → NodeId → NodeKind
-kind_at nodes id = kind_or_fault (slice_get nodes id.0)
+-- the part is such a list, or the header that has one, behind `async` or not
+abbrev pub brings_list : List Node → NodeKind → NodeId → Bool
+brings_list nodes k p = is_type_list k || (takes_list k && has_list nodes p) || (is_async k && list_any (has_list nodes) (parts_at nodes p))
+
+-- A def, a class or a `type` statement is generic where a list of type parameters is written (8.10).
+abbrev pub is_generic : List Node → Node → Bool
+is_generic nodes n = takes_types n.kind && list_any (λ p. brings_list nodes (kind_at nodes p) p) n.parts
 
 -- the step from the i-th part of a node to the node
 abbrev pub step_from : List Node → ℕ → Node → ℕ → Step
@@ -28,6 +33,7 @@ step_from nodes at n i = record {
   parts = length n.parts;
   inner = kind_at nodes (slice_index_or n.parts i (record { 0 = at }));
   first_for = position_or_len (λ p. is_for (kind_at nodes p)) n.parts;
+  generic = is_generic nodes n;
 }
 
 abbrev pub step_if : List Node → ℕ → Node → Option ℕ → Option Step → Option Step

@@ -74,10 +74,14 @@ impl Nest {
     }
 }
 
-fn typed(node: NodeId, around: Nest) -> Result<Nest, NoMemory>
-    ensures { IfOk result (λ nest. nest ≡ typed node around) }
+fn typed(is_generic: bool, node: NodeId, around: Nest) -> Result<Nest, NoMemory>
+    ensures { IfOk result (λ nest. nest ≡ typed is_generic node around) }
 {
-    around.open(node, ScopeKind::TypeParameters)
+    if is_generic {
+        around.open(node, ScopeKind::TypeParameters)
+    } else {
+        around.open(node, ScopeKind::NoTypeParameters)
+    }
 }
 
 fn owned(kind: ScopeKind, around: Nest) -> Result<Nest, NoMemory>
@@ -89,18 +93,13 @@ fn owned(kind: ScopeKind, around: Nest) -> Result<Nest, NoMemory>
     }
 }
 
-fn in_statement(
-    kind: ScopeKind,
-    node: NodeId,
-    part: NodeKind,
-    around: Nest,
-) -> Result<Nest, NoMemory>
-    ensures { IfOk result (λ nest. nest ≡ in_statement kind node part around) }
+fn in_statement(kind: ScopeKind, step: &Step, around: Nest) -> Result<Nest, NoMemory>
+    ensures { IfOk result (λ nest. nest ≡ in_statement kind step.now step.now.inner around) }
 {
-    match part {
+    match step.inner {
         NodeKind::Decorator => Ok(around),
-        NodeKind::Block => typed(node, around)?.open(node, kind),
-        _ => typed(node, around),
+        NodeKind::Block => typed(step.generic, step.around, around)?.open(step.around, kind),
+        _ => typed(step.generic, step.around, around),
     }
 }
 
@@ -123,7 +122,7 @@ fn is_own_of_lambda(step: &Step) -> bool
 fn in_lambda(step: &Step, around: Nest) -> Result<Nest, NoMemory>
     ensures { IfOk result (λ nest. nest ≡ in_lambda step.now around) }
 {
-    let nest = typed(step.around, around)?;
+    let nest = typed(false, step.around, around)?;
     if is_own_of_lambda(step) {
         nest.open(step.around, ScopeKind::Lambda)
     } else {
@@ -193,7 +192,7 @@ fn in_type_alias(step: &Step, around: Nest) -> Result<Nest, NoMemory>
     ensures { IfOk result (λ nest. nest ≡ in_type_alias step.now around) }
 {
     if step.part > 1 {
-        typed(step.around, around)
+        typed(step.generic, step.around, around)
     } else {
         Ok(around)
     }
@@ -233,8 +232,8 @@ fn scopes_inside(step: &Step, outward: &[Step], around: Nest) -> Result<Nest, No
 {
     match step.kind {
         NodeKind::Module => around.open(step.around, ScopeKind::Module),
-        NodeKind::ClassStatement => in_statement(ScopeKind::Class, step.around, step.inner, around),
-        NodeKind::DefStatement => in_statement(ScopeKind::Def, step.around, step.inner, around),
+        NodeKind::ClassStatement => in_statement(ScopeKind::Class, step, around),
+        NodeKind::DefStatement => in_statement(ScopeKind::Def, step, around),
         NodeKind::Class => in_header(ScopeKind::Class, step.inner, around),
         NodeKind::Def => in_header(ScopeKind::Def, step.inner, around),
         NodeKind::Lambda => in_lambda(step, around),

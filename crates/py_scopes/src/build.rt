@@ -1,17 +1,18 @@
 //! The making of the table of a module, in one pass over the nodes, the occurrences and the symbols for
 //! each of its lists.
-ghost use Rattle.std.specs.Prelude.{◌≡◌, ◌<◌, map, length, Some, slice_get, IfOk, OnOk, IfSome};
-ghost use Rattle.py_scopes.specs.Occurrences.{first_ids, node_ids, occurrences};
-ghost use Rattle.std.specs.List.{IsDistinct};
+ghost use Rattle.std.specs.Prelude.{◌≡◌, ◌<◌, ◌+◌, [], map, length, Some, slice_get, option_map, IfOk, OnOk, IfSome};
+ghost use Rattle.py_scopes.specs.Occurrences.{first_ids, node_ids, occurrences, role_at};
+ghost use Rattle.std.specs.List.{IsDistinct, cons_option};
 ghost use Rattle.py_scopes.specs.Owner.{same_symbol};
 ghost use Rattle.py_scopes.specs.Members.{symbols};
-ghost use Rattle.py_scopes.specs.Table.{number_of, owner_by, owner_at, declaration, bindings, members_from, table_of, IsTable};
-ghost use Rattle.py_scopes.specs.Tables.{steps_outward, number_bound, PutsAt, AddsBinding, AddsAnnotation, AddsMember, no_items, no_annotation, earliest_to, node_of, AreBelow};
+ghost use Rattle.py_scopes.specs.Table.{owner_by, owner_if, owner_at, declaration, bindings, members_from, table_of, IsTable};
+ghost use Rattle.py_scopes.specs.Tables.{steps_outward, AreBelow, number_bound, PutsAt, AddsBinding, AddsAnnotation, AddsMember, no_items, no_annotation, earliest_to, if_node};
 
+use crate::facts::{builtin_of, facts, number_of};
 use crate::members::{Instances, bound_symbol, symbols};
-use crate::occurrence::{Annotation, Occurrence, occurrence_at, occurrences};
-use crate::owner::{Owner, owner_as};
-use crate::roles::{bound_node, earlier};
+use crate::occurrence::{Annotation, Occurrence, occurrences};
+use crate::owner::{Owner, owner_as, unbound_owner};
+use crate::roles::{NameRole, bound_node, does_give_value, earlier};
 use crate::scope::{Symbol, is_class, is_same_graph};
 use crate::table::Scopes;
 use crate::way::{Step, steps_outward};
@@ -29,50 +30,55 @@ pub fn scopes(alloc: Global, tree: &Tree) -> Result<Scopes, NoMemory>
     ensures owners { IfOk result (λ t. length t.owners ≡ length tree.now.nodes) }
 {
     let outward = steps_outward(alloc, tree)?;
-    let all = occurrences(alloc, tree, outward.as_slice())?;
-    let instances = Instances::new(alloc, all)?;
+    let found = occurrences(alloc, tree, outward.as_slice())?;
+    let instances = Instances::new(alloc, found.all)?;
     let numbers = symbols(alloc, &instances)?;
-    table_of(alloc, tree, outward.as_slice(), &instances, &numbers)
+    table_of(
+        alloc,
+        tree,
+        outward.as_slice(),
+        found.roles,
+        &instances,
+        &numbers,
+    )
 }
 
-// The table over all occurrences and the symbols by their numbers.
+// The table over all occurrences, with the roles of the nodes and the symbols by their numbers.
 fn table_of(
     alloc: Global,
     tree: &Tree,
     outward: &[Option<Step>],
+    roles: List<Option<NameRole>>,
     instances: &Instances,
     numbers: &IndexSet<Symbol>,
 ) -> Result<Scopes, NoMemory>
     requires outward { outward.now ≡ steps_outward tree.now }
+    requires all { instances.now ≡ occurrences tree.now }
+    requires roles { roles ≡ map (role_at tree.now) (node_ids tree.now) }
     requires room { length numbers.now.keys < 33554432 }
     requires below { AreBelow (length tree.now.nodes) instances.now }
     ensures { IfOk result (λ t. t ≡ table_of tree.now instances.now numbers.now.keys) }
 {
     Ok(Scopes {
-        owners: owners(alloc, tree, outward, instances, numbers)?,
-        declared: declarations(alloc, instances, numbers)?,
+        owners: owners(alloc, tree, instances, numbers)?,
+        roles,
+        facts: facts(alloc, tree, outward, instances, numbers)?,
+        declared: annotations(alloc, instances, numbers)?,
         bound: all_bindings(alloc, instances, numbers)?,
         members: all_members(alloc, tree, numbers)?,
     })
 }
 
-// The number of a symbol.
-fn number_of(numbers: &IndexSet<Symbol>, symbol: Symbol) -> Option<usize>
-    ensures value { result ≡ number_of numbers.now.keys symbol }
-    ensures within { IfSome result (λ k. k < length numbers.now.keys) }
-{
-    numbers.get_index_of(&symbol)
-}
-
 // The owner of a name whose symbol is this one.
 fn owner_by(
+    tree: &Tree,
     instances: &Instances,
     numbers: &IndexSet<Symbol>,
     occurrence: &Occurrence,
     symbol: Option<Symbol>,
 ) -> Owner
     requires { length numbers.now.keys < 33554432 }
-    ensures { result ≡ owner_by instances.now numbers.now.keys occurrence.now symbol }
+    ensures { result ≡ owner_by tree.now instances.now numbers.now.keys occurrence.now symbol }
 {
     match symbol {
         Some(symbol) => {
@@ -80,48 +86,69 @@ fn owner_by(
             let is_local = is_same_graph(scopes, occurrence.scopes.as_slice());
             owner_as(is_local, number_of(numbers, symbol))
         }
-        None if occurrence.builtin => Owner::Builtin(occurrence.name),
+        None => unbound_owner(builtin_of(tree, occurrence.name)),
+    }
+}
+
+fn owner_if(
+    tree: &Tree,
+    instances: &Instances,
+    numbers: &IndexSet<Symbol>,
+    occurrence: Option<&Occurrence>,
+) -> Owner
+    requires { length numbers.now.keys < 33554432 }
+    ensures { result ≡ owner_if tree.now instances.now numbers.now.keys (option_map (λ o. o.now) occurrence.entry) }
+{
+    match occurrence {
+        Some(occurrence) => {
+            let symbol = instances.symbol_of(occurrence);
+            owner_by(tree, instances, numbers, occurrence, symbol)
+        }
         None => Owner::Undefined,
     }
 }
 
-fn owner_at(
-    alloc: Global,
-    tree: &Tree,
-    outward: &[Option<Step>],
-    instances: &Instances,
-    numbers: &IndexSet<Symbol>,
-    id: NodeId,
-) -> Result<Owner, NoMemory>
-    requires outward { outward.now ≡ steps_outward tree.now }
-    requires node { id.0 < length tree.now.nodes }
-    requires room { length numbers.now.keys < 33554432 }
-    ensures { IfOk result (λ owner. owner ≡ owner_at tree.now instances.now numbers.now.keys id) }
+// The occurrence of this number, where it is at the node.
+fn occurrence_if(all: &[Occurrence], number: usize, id: NodeId) -> Option<&Occurrence>
+    ensures { option_map (λ o. o.now) result ≡ if_node id (slice_get all.now number) }
 {
-    match occurrence_at(alloc, tree, outward, id)? {
-        Some(occurrence) => {
-            let symbol = instances.symbol_of(&occurrence);
-            Ok(owner_by(instances, numbers, &occurrence, symbol))
-        }
-        None => Ok(Owner::Undefined),
+    let occurrence = all.get(number)?;
+    if occurrence.node.0 == id.0 {
+        Some(occurrence)
+    } else {
+        None
     }
 }
 
+// The number behind an occurrence, and the same where there is none.
+fn behind(passed: usize, occurrence: Option<&Occurrence>) -> usize
+    requires { passed < 33554432 }
+    ensures { result ≡ passed + length (cons_option (option_map (λ o. o.now) occurrence.entry) []) }
+{
+    match occurrence {
+        Some(_) => passed + 1,
+        None => passed,
+    }
+}
+
+// The owners of nodes. All occurrences stand in the order of their nodes.
 fn owners(
     alloc: Global,
     tree: &Tree,
-    outward: &[Option<Step>],
     instances: &Instances,
     numbers: &IndexSet<Symbol>,
 ) -> Result<List<Owner>, NoMemory>
-    requires outward { outward.now ≡ steps_outward tree.now }
+    requires all { instances.now ≡ occurrences tree.now }
     requires room { length numbers.now.keys < 33554432 }
     ensures { IfOk result (λ owners. owners ≡ map (owner_at tree.now instances.now numbers.now.keys) (node_ids tree.now)) }
 {
     let mut owners = List::new(alloc);
+    let mut passed = 0;
+    let all = instances.occurrences();
     for number in 0..tree.node_count() {
-        let id = NodeId(number as u32);
-        owners.push(owner_at(alloc, tree, outward, instances, numbers, id)?)?;
+        let occurrence = occurrence_if(all, passed, NodeId(number as u32));
+        owners.push(owner_if(tree, instances, numbers, occurrence))?;
+        passed = behind(passed, occurrence);
     }
     Ok(owners)
 }
@@ -197,7 +224,7 @@ fn annotations(
     numbers: &IndexSet<Symbol>,
 ) -> Result<List<Option<Annotation>>, NoMemory>
     requires { length numbers.now.keys < 33554432 }
-    ensures { IfOk result (λ earliest. map node_of earliest ≡ map (declaration instances.now) numbers.now.keys) }
+    ensures { IfOk result (λ earliest. earliest ≡ map (declaration instances.now) numbers.now.keys) }
 {
     let mut earliest = no_annotations(alloc, numbers.len())?;
     let all = instances.occurrences();
@@ -205,31 +232,6 @@ fn annotations(
         add_annotation(instances, numbers, occurrence, &mut earliest);
     }
     Ok(earliest)
-}
-
-fn node_of(annotation: Option<Annotation>) -> Option<NodeId>
-    ensures { result ≡ node_of annotation }
-{
-    match annotation {
-        Some(annotation) => Some(annotation.node),
-        None => None,
-    }
-}
-
-fn declarations(
-    alloc: Global,
-    instances: &Instances,
-    numbers: &IndexSet<Symbol>,
-) -> Result<List<Option<NodeId>>, NoMemory>
-    requires { length numbers.now.keys < 33554432 }
-    ensures { IfOk result (λ declared. declared ≡ map (declaration instances.now) numbers.now.keys) }
-{
-    let earliest = annotations(alloc, instances, numbers)?;
-    let mut declared = List::new(alloc);
-    for annotation in earliest.as_slice() {
-        declared.push(node_of(*annotation))?;
-    }
-    Ok(declared)
 }
 
 // As many empty lists as are told.
@@ -265,7 +267,7 @@ fn add_binding(
     ensures adds { OnOk result (AddsBinding instances.now numbers.now.keys occurrence.now bound.old.items bound.new.items) }
     ensures count { OnOk result (length bound.new.items ≡ length bound.old.items) }
 {
-    if !occurrence.valued {
+    if !does_give_value(occurrence.effect) {
         return Ok(());
     }
     match number_bound(instances, numbers, occurrence) {

@@ -1,7 +1,9 @@
 //! What the forms do with the names in their parts.
 ghost use Rattle.std.specs.Prelude.{◌≡◌};
-ghost use Rattle.py_scopes.specs.Kinds.{binds_part, hands_on, spells_part, is_dotted, is_for, makes_member, gives_value, is_annotated, is_long_parameter};
+ghost use Rattle.py_scopes.specs.Kinds.{binds_part, hands_on, spells_part, is_dotted, is_for, takes_types, takes_list, is_async, is_type_list, makes_member, annotated_as, bound_as, is_annotated, is_long_parameter, star_of};
 
+use crate::occurrence::Star;
+use crate::roles::NameRole;
 use py_base::NodeKind;
 
 /// Whether a node of this kind binds its part of this number, counted from 0, where it has so many parts: a
@@ -97,6 +99,36 @@ pub(crate) fn is_for(kind: NodeKind) -> bool
     )
 }
 
+/// Whether a list of type parameters may belong to it.
+pub(crate) fn does_take_types(kind: NodeKind) -> bool
+    ensures { result ≡ takes_types kind }
+{
+    matches!(
+        kind,
+        NodeKind::DefStatement | NodeKind::ClassStatement | NodeKind::TypeAlias
+    )
+}
+
+/// Whether it is a header that may have a list of type parameters.
+pub(crate) fn does_take_list(kind: NodeKind) -> bool
+    ensures { result ≡ takes_list kind }
+{
+    matches!(kind, NodeKind::Def | NodeKind::Class)
+}
+
+pub(crate) fn is_async(kind: NodeKind) -> bool
+    ensures { result ≡ is_async kind }
+{
+    matches!(kind, NodeKind::Async)
+}
+
+/// Whether it is a list of type parameters.
+pub(crate) fn is_type_list(kind: NodeKind) -> bool
+    ensures { result ≡ is_type_list kind }
+{
+    matches!(kind, NodeKind::TypeParameters)
+}
+
 /// Whether it is a parameter without a star that has more than its name.
 pub(crate) fn is_long_parameter(kind: NodeKind) -> bool
     ensures { result ≡ is_long_parameter kind }
@@ -111,14 +143,42 @@ pub(crate) fn does_make_member(kind: NodeKind) -> bool
     !matches!(kind, NodeKind::Del | NodeKind::Case)
 }
 
-/// Whether a node of this kind with so many parts gives a value to what it binds.
-pub(crate) fn does_give_value(kind: NodeKind, parts: usize) -> bool
-    ensures { result ≡ gives_value kind parts }
+// The role of a name with an annotation, which alone is two parts.
+fn annotated_as(parts: usize) -> NameRole
+    ensures { result ≡ annotated_as parts }
+{
+    if parts == 2 {
+        NameRole::Annotated
+    } else {
+        NameRole::Bound
+    }
+}
+
+/// The role of a name that a node of this kind with so many parts binds.
+pub(crate) fn bound_as(kind: NodeKind, parts: usize) -> NameRole
+    ensures { result ≡ bound_as kind parts }
 {
     match kind {
-        NodeKind::Del => false,
-        NodeKind::AnnotatedAssign => parts != 2,
-        _ => true,
+        NodeKind::Del => NameRole::Deleted,
+        NodeKind::AnnotatedAssign => annotated_as(parts),
+        NodeKind::AugmentedAssign => NameRole::Augmented,
+        NodeKind::TypeAlias
+        | NodeKind::TypeParameters
+        | NodeKind::TypeParameter
+        | NodeKind::StarTypeParameter
+        | NodeKind::DoubleStarTypeParameter => NameRole::TypeName,
+        _ => NameRole::Bound,
+    }
+}
+
+/// The stars before a parameter of this kind.
+pub(crate) fn star_of(kind: NodeKind) -> Star
+    ensures { result ≡ star_of kind }
+{
+    match kind {
+        NodeKind::StarParameter => Star::Single,
+        NodeKind::DoubleStarParameter => Star::Double,
+        _ => Star::Plain,
     }
 }
 

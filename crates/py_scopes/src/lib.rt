@@ -1,5 +1,5 @@
-//! Who owns a name: for each name of a module the scope whose name it is, and for each symbol its
-//! declaration and its bindings, and for each class its members.
+//! Who owns a name: for each name of a module the scope whose name it is and what it does there, for each
+//! symbol its scope, its declaration and its bindings, and for each class its members.
 //!
 //! In one sentence: `scopes` gives the table of a module, in which the owner of a name is found by a
 //! search outward from it over the scopes around it, and the other calls read that table.
@@ -18,6 +18,7 @@
 
 mod around;
 mod build;
+mod facts;
 mod kinds;
 mod members;
 mod occurrence;
@@ -30,6 +31,10 @@ mod table;
 mod way;
 
 pub use build::scopes;
+pub use facts::{Behind, SymbolFacts};
 pub use kinds::does_bind;
+pub use occurrence::{Annotation, Star};
 pub use owner::Owner;
+pub use roles::NameRole;
+pub use scope::{Scope, ScopeKind, Symbol};
 pub use table::Scopes;

@@ -3,11 +3,11 @@
 ghost use Rattle.std.specs.Prelude.{◌≡◌, ◌≤◌, Option, Some, length, slice_get, IfOk, OnOk};
 ghost use Rattle.indexmap.specs.IndexMap.{get};
 ghost use Rattle.py_scopes.specs.Owner.{owner_scopes, symbol_of};
-ghost use Rattle.py_scopes.specs.Members.{class_only, class_of, member_if, bound_symbol, symbols};
-ghost use Rattle.py_scopes.specs.Tables.{static_method_at, HasStatics, HasClasses, instance_at, AddsStatic, AddsClass};
+ghost use Rattle.py_scopes.specs.Members.{class_only, class_of, member_if, bound_symbol, is_init_symbol, is_own_value, makes_hide, hider_at, symbols};
+ghost use Rattle.py_scopes.specs.Tables.{static_method_at, HasStatics, HasClasses, HasHiders, instance_at, AddsStatic, AddsClass};
 
 use crate::occurrence::{Occurrence, Role};
-use crate::roles::is_first;
+use crate::roles::{does_give_value, is_augmented, is_first};
 use crate::said::{add_symbol, symbol_in};
 use crate::scope::{Scope, Symbol, class_only, member_of};
 use crate::search::{Search, owner_scopes, symbol_of};
@@ -113,7 +113,7 @@ fn all_classes(
 
 /// All occurrences, what they say, and the class whose instance each symbol is. A contract sees the
 /// occurrences.
-#[derive(Debug, Drop)]
+#[derive(Drop)]
 pub(crate) struct Instances {
     search: Search,
     classes: IndexMap<Symbol, Scope>,
@@ -186,10 +186,64 @@ pub(crate) fn bound_symbol(instances: &Instances, occurrence: &Occurrence) -> Op
     ensures { result ≡ bound_symbol instances.now occurrence.now }
 {
     match occurrence.role {
-        Role::Binding | Role::FirstParameter => instances.symbol_of(occurrence),
+        Role::Binding | Role::FirstParameter(_) => instances.symbol_of(occurrence),
         Role::Object(_, name) => member_if(instances, name, instances.symbol_of(occurrence)),
         _ => None,
     }
+}
+
+// Whether the symbol is the first parameter of an `__init__`.
+fn is_init_symbol(instances: &Instances, symbol: Option<Symbol>) -> bool
+    ensures { result ≡ is_init_symbol instances.now symbol }
+{
+    match symbol {
+        Some(symbol) => instances.search.is_init(symbol.scope, symbol.name),
+        None => false,
+    }
+}
+
+// Whether a value isn't given through an instance, or by a plain target of an `__init__`.
+fn is_own_value(instances: &Instances, occurrence: &Occurrence) -> bool
+    ensures { result ≡ is_own_value instances.now occurrence.now occurrence.now.role }
+{
+    match occurrence.role {
+        Role::Object(_, _) => {
+            !is_augmented(occurrence.effect)
+                && is_init_symbol(instances, instances.symbol_of(occurrence))
+        }
+        _ => true,
+    }
+}
+
+fn does_make_hide(instances: &Instances, occurrence: &Occurrence) -> bool
+    ensures { result ≡ makes_hide instances.now occurrence.now }
+{
+    occurrence.annotation.is_some()
+        || (does_give_value(occurrence.effect) && is_own_value(instances, occurrence))
+}
+
+// The symbol that is bound here and hides those of its name behind it, if one is.
+fn hider_at(instances: &Instances, occurrence: &Occurrence) -> Option<Symbol>
+    ensures { result ≡ hider_at instances.now occurrence.now }
+{
+    if does_make_hide(instances, occurrence) {
+        bound_symbol(instances, occurrence)
+    } else {
+        None
+    }
+}
+
+/// The symbols that hide those of their names behind them. `NoMemory` where they could not be
+/// stored.
+pub(crate) fn hiders(alloc: Global, instances: &Instances) -> Result<IndexSet<Symbol>, NoMemory>
+    ensures { IfOk result (λ hiders. HasHiders instances.now hiders.keys) }
+{
+    let mut hiders = IndexSet::new(alloc);
+    let all = instances.occurrences();
+    for occurrence in all {
+        add_symbol(&mut hiders, hider_at(instances, occurrence))?;
+    }
+    Ok(hiders)
 }
 
 /// The symbols by their numbers, in the order of the occurrences that first bind them. `NoMemory`

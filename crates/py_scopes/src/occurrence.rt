@@ -3,14 +3,16 @@ ghost use Rattle.std.specs.Prelude.{◌≡◌, ◌<◌, ◌++◌, Some, IfOk, On
 ghost use Rattle.std.specs.List.{list_any};
 ghost use Rattle.std.specs.Option.{option_to_list};
 ghost use Rattle.py_scopes.specs.Kinds.{is_case, is_named, makes_member};
-ghost use Rattle.py_scopes.specs.Occurrences.{of_kind, binder, only_spells, in_pattern_string, counts, is_group, target_way, node_around, target_binder, decorated, is_first_part, is_first_parameter, text_of, word_name, name_of, object_of, read_by, static_at, static_or, read_role, role_of, some_binder, valued_by, annotation_of, annotation_by, scopes_for, is_builtin, occurrence_on, leaf_name, occurrence_if, occurrence_at, occurrences, parts_of};
+ghost use Rattle.py_scopes.specs.Occurrences.{of_kind, binder, only_spells, in_pattern_string, counts, is_group, target_way, node_around, target_binder, decorated, is_first_part, is_first_parameter, text_of, word_name, name_if, def_name, is_init, object_of, read_by, static_at, static_or, read_role, role_of, some_binder, effect_by, annotation_of, annotation_by, role_if, role_at, scopes_for, is_builtin, occurrence_on, leaf_name, occurrence_if, occurrence_at, occurrences, node_ids};
+ghost use Rattle.py_base.specs.Nodes.{parts_at};
 ghost use Rattle.py_scopes.specs.Tables.{steps_outward, AreBelow};
 
 use crate::around::{kind_around, scopes_along};
 use crate::kinds::{
-    does_bind, does_give_value, does_hand_on, does_make_member, does_spell, is_annotated,
-    is_dotted, is_long_parameter,
+    bound_as, does_bind, does_hand_on, does_make_member, does_spell, is_annotated, is_dotted,
+    is_long_parameter, star_of,
 };
+use crate::roles::{NameRole, seen_as};
 use crate::scope::{Scope, from_taker};
 use crate::way::{Step, way_out};
 use py_base::language_names::BUILTIN_NAMES;
@@ -18,7 +20,7 @@ use py_base::{List, NameId, NoMemory, NodeId, NodeKind, Tree, Word};
 use std::alloc::Global;
 
 /// What a name is there for.
-#[derive(Clone, Copy, Debug)]
+#[derive(Clone, Copy)]
 pub enum Role {
     Read,
     /// `staticmethod` as a decorator of this statement.
@@ -27,35 +29,47 @@ pub enum Role {
     Object(NodeId, NameId),
     /// It is bound here, by `del` and by an annotation without a value too.
     Binding,
-    /// It is bound as the first parameter of a def, which has no star.
-    FirstParameter,
+    /// It is bound as the first parameter of a def, which has no star; whether of an `__init__`.
+    FirstParameter(bool),
     /// It is declared `global`.
     Global,
     /// It is declared `nonlocal`.
     Nonlocal,
 }
 
-/// An annotation, and where in the text it begins.
-#[derive(Clone, Copy, Debug)]
+/// The stars before a parameter that is annotated.
+#[derive(Clone, Copy)]
+pub enum Star {
+    /// None, and where no parameter is annotated.
+    Plain,
+    /// `*`: the type of the name is `tuple[T, ...]`, T being that of the annotation.
+    Single,
+    /// `**`: the type of the name is `dict[str, T]`.
+    Double,
+}
+
+/// An annotation of a name, an attribute or a parameter.
+#[derive(Clone, Copy)]
 pub struct Annotation {
     pub node: NodeId,
+    /// Where in the text it begins, in bytes.
     pub from: u32,
+    /// The stars of the parameter, if it is one's.
+    pub star: Star,
 }
 
 /// Where a name stands.
-#[derive(Debug, Drop)]
+#[derive(Drop)]
 pub struct Occurrence {
     /// The `Name`.
     pub node: NodeId,
     pub name: NameId,
-    /// Whether it is the name of a builtin.
-    pub builtin: bool,
     pub role: Role,
     /// The scopes around it, the innermost first, and for a binding those from the one that it binds
     /// in outward.
     pub scopes: List<Scope>,
-    /// Whether it, or the target whose `p` it is, gets a value here.
-    pub valued: bool,
+    /// What binds it, or the target whose `p` it is, gives it this role; `Read` where nothing does.
+    pub effect: NameRole,
     /// The annotation of what is bound here, where it has one.
     pub annotation: Option<Annotation>,
 }
@@ -209,8 +223,8 @@ fn is_first_parameter(way: &[Step]) -> bool
     }
 }
 
-// The text of a name; nothing where the tree has no such name.
-fn text_of(tree: &Tree, name: NameId) -> &str
+/// The text of a name; nothing where the tree has no such name.
+pub(crate) fn text_of(tree: &Tree, name: NameId) -> &str
     ensures { result.now ≡ text_of tree.now.names name }
 {
     if (name.0 as usize) < tree.name_count() {
@@ -220,23 +234,34 @@ fn text_of(tree: &Tree, name: NameId) -> &str
     }
 }
 
-fn word_name(word: &Word) -> Option<NameId>
-    ensures { result ≡ word_name word.now }
+fn name_if(tree: &Tree, id: Option<NodeId>) -> Option<NameId>
+    ensures { result ≡ name_if tree.now id }
 {
-    match word {
-        Word::Name(name) => Some(*name),
-        _ => None,
+    match id {
+        Some(id) => tree.name_of(id),
+        None => None,
     }
 }
 
-// The name that is the word of a node.
-fn name_of(tree: &Tree, id: NodeId) -> Option<NameId>
-    ensures { result ≡ name_of tree.now id }
+// The name of the innermost def whose header is on the way.
+fn def_name(tree: &Tree, way: &[Step]) -> Option<NameId>
+    ensures { result ≡ def_name tree.now way.now }
 {
-    if (id.0 as usize) >= tree.node_count() {
-        return None;
+    let (step, outward) = way.split_first()?;
+    if step.kind == NodeKind::Def {
+        name_if(tree, part_at(tree, step.around, 0))
+    } else {
+        def_name(tree, outward)
     }
-    word_name(&tree.node(id).word)
+}
+
+fn is_init(tree: &Tree, name: Option<NameId>) -> bool
+    ensures { result ≡ is_init tree.now name }
+{
+    match name {
+        Some(name) => text_of(tree, name) == "__init__",
+        None => false,
+    }
 }
 
 fn object_of(target: NodeId, name: Option<NameId>) -> Role
@@ -252,7 +277,7 @@ fn read_by(tree: &Tree, target: &[Step], binder: Option<Step>) -> Role
     ensures { result ≡ read_by tree.now target.now binder }
 {
     match binder {
-        Some(_) => object_of(node_around(target), name_of(tree, node_around(target))),
+        Some(_) => object_of(node_around(target), tree.name_of(node_around(target))),
         None => Role::Read,
     }
 }
@@ -295,7 +320,9 @@ fn role_of(tree: &Tree, is_staticmethod: bool, way: &[Step]) -> Role
     ensures { result ≡ role_of tree.now is_staticmethod way.now }
 {
     match binder(way) {
-        Some(_) if is_first_parameter(way) => Role::FirstParameter,
+        Some(_) if is_first_parameter(way) => {
+            Role::FirstParameter(is_init(tree, def_name(tree, way)))
+        }
         Some(_) => Role::Binding,
         None => read_role(tree, is_staticmethod, way),
     }
@@ -311,35 +338,27 @@ fn some_binder(way: &[Step]) -> Option<Step>
     }
 }
 
-fn is_valued(binder: Option<Step>) -> bool
-    ensures { result ≡ valued_by binder }
+fn effect_by(binder: Option<Step>) -> NameRole
+    ensures { result ≡ effect_by binder }
 {
     match binder {
-        Some(step) => does_give_value(step.kind, step.parts),
-        None => false,
+        Some(step) => bound_as(step.kind, step.parts),
+        None => NameRole::Read,
     }
 }
 
-fn annotation_at(tree: &Tree, id: Option<NodeId>) -> Option<Annotation>
-    ensures { result ≡ annotation_of tree.now id }
+fn annotation_at(tree: &Tree, star: Star, id: Option<NodeId>) -> Option<Annotation>
+    ensures { result ≡ annotation_of tree.now star id }
 {
     let node = id?;
-    let from = if (node.0 as usize) < tree.node_count() {
-        tree.node(node).span.from
-    } else {
-        0
-    };
-    Some(Annotation { node, from })
+    let from = tree.span(node).from;
+    Some(Annotation { node, from, star })
 }
 
-fn second_part(tree: &Tree, id: NodeId) -> Option<NodeId>
-    ensures { result ≡ slice_get (parts_of (slice_get tree.now.nodes id.0)) 1 }
+fn part_at(tree: &Tree, id: NodeId, place: usize) -> Option<NodeId>
+    ensures { result ≡ slice_get (parts_at tree.now.nodes id) place }
 {
-    if (id.0 as usize) < tree.node_count() {
-        tree.node(id).parts.as_slice().get(1).copied()
-    } else {
-        None
-    }
+    tree.parts(id).get(place).copied()
 }
 
 fn annotation_by(tree: &Tree, binder: Option<Step>) -> Option<Annotation>
@@ -347,7 +366,7 @@ fn annotation_by(tree: &Tree, binder: Option<Step>) -> Option<Annotation>
 {
     let step = binder?;
     if is_annotated(step.kind, step.parts) {
-        annotation_at(tree, second_part(tree, step.around))
+        annotation_at(tree, star_of(step.kind), part_at(tree, step.around, 1))
     } else {
         None
     }
@@ -379,7 +398,7 @@ fn is_among(names: &[&str], text: &str) -> bool
     false
 }
 
-fn is_builtin(text: &str) -> bool
+pub(crate) fn is_builtin(text: &str) -> bool
     ensures { result ≡ is_builtin text.now }
 {
     is_among(&BUILTIN_NAMES, text)
@@ -411,12 +430,20 @@ fn occurrence_on(
     Ok(Occurrence {
         node: id,
         name,
-        builtin: is_builtin(text),
         role: role_of(tree, is_staticmethod(text), way),
         scopes: scopes_for(alloc, way)?,
-        valued: is_valued(binder),
+        effect: effect_by(binder),
         annotation: annotation_by(tree, binder),
     })
+}
+
+fn word_name(word: &Word) -> Option<NameId>
+    ensures { result ≡ word_name word.now }
+{
+    match word {
+        Word::Name(name) => Some(*name),
+        _ => None,
+    }
 }
 
 // The name that a leaf is.
@@ -452,16 +479,15 @@ fn occurrence_if(
     Ok(Some(occurrence))
 }
 
-/// The occurrence of a name at a node, `None` exactly where none stands there, by the steps outward
-/// from all nodes. `NoMemory` where it could not be stored.
-pub(crate) fn occurrence_at(
+// The occurrence of a name at a node, `None` exactly where none stands there, by the steps outward
+// from all nodes.
+fn occurrence_at(
     alloc: Global,
     tree: &Tree,
     outward: &[Option<Step>],
     id: NodeId,
 ) -> Result<Option<Occurrence>, NoMemory>
-    requires outward { outward.now ≡ steps_outward tree.now }
-    requires node { id.0 < length tree.now.nodes }
+    requires { outward.now ≡ steps_outward tree.now }
     ensures { IfOk result (λ o. o ≡ occurrence_at tree.now id) }
 {
     let Some(name) = leaf_name(tree, id) else {
@@ -481,22 +507,40 @@ fn push_some<T: Drop>(items: &mut List<T>, item: Option<T>) -> Result<(), NoMemo
     }
 }
 
-/// All occurrences of names, by the numbers of their nodes. `NoMemory` where they could not be
-/// stored.
+fn role_if(occurrence: &Option<Occurrence>) -> Option<NameRole>
+    ensures { result ≡ role_if occurrence.now }
+{
+    match occurrence {
+        Some(occurrence) => Some(seen_as(occurrence.role, occurrence.effect)),
+        None => None,
+    }
+}
+
+/// All occurrences of names, by the numbers of their nodes, and the role of the name at each node.
+#[derive(Drop)]
+pub(crate) struct Found {
+    pub(crate) all: List<Occurrence>,
+    pub(crate) roles: List<Option<NameRole>>,
+}
+
+/// All occurrences of names, and the roles of nodes. `NoMemory` where they could not be stored.
 pub(crate) fn occurrences(
     alloc: Global,
     tree: &Tree,
     outward: &[Option<Step>],
-) -> Result<List<Occurrence>, NoMemory>
+) -> Result<Found, NoMemory>
     requires { outward.now ≡ steps_outward tree.now }
-    ensures all { IfOk result (λ all. all ≡ occurrences tree.now) }
-    ensures room { IfOk result (λ all. length all < 33554432) }
-    ensures below { IfOk result (AreBelow (length tree.now.nodes)) }
+    ensures all { IfOk result (λ found. found.all ≡ occurrences tree.now) }
+    ensures roles { IfOk result (λ found. found.roles ≡ map (role_at tree.now) (node_ids tree.now)) }
+    ensures room { IfOk result (λ found. length found.all < 33554432) }
+    ensures below { IfOk result (λ found. AreBelow (length tree.now.nodes) found.all) }
 {
     let mut all = List::new(alloc);
+    let mut roles = List::new(alloc);
     for number in 0..tree.node_count() {
-        let id = NodeId(number as u32);
-        push_some(&mut all, occurrence_at(alloc, tree, outward, id)?)?;
+        let occurrence = occurrence_at(alloc, tree, outward, NodeId(number as u32))?;
+        roles.push(role_if(&occurrence))?;
+        push_some(&mut all, occurrence)?;
     }
-    Ok(all)
+    Ok(Found { all, roles })
 }

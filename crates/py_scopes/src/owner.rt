@@ -1,6 +1,6 @@
 //! Whose a name is.
 ghost use Rattle.std.specs.Prelude.{◌≡◌, ◌<◌, IfSome};
-ghost use Rattle.py_scopes.specs.Table.{owner_as};
+ghost use Rattle.py_scopes.specs.Table.{unbound_owner, owner_as};
 
 use py_base::{NameId, SymId};
 
@@ -17,6 +17,16 @@ pub enum Owner {
     Builtin(NameId),
     /// A name that nobody binds, and a node that is no name.
     Undefined,
+}
+
+/// The owner of a name that nobody binds, if it is that of a builtin.
+pub(crate) fn unbound_owner(builtin: Option<NameId>) -> Owner
+    ensures { result ≡ unbound_owner builtin }
+{
+    match builtin {
+        Some(name) => Owner::Builtin(name),
+        None => Owner::Undefined,
+    }
 }
 
 /// The owner by the number of a symbol, whose scope runs in the graph of the use, or it doesn't.

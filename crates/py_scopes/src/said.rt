@@ -3,7 +3,7 @@
 ghost use Rattle.std.specs.Prelude.{◌≡◌, fold, IfOk, OnOk};
 ghost use Rattle.std.specs.Option.{option_to_list};
 ghost use Rattle.py_scopes.specs.Owner.{is_binding, is_global_name, is_nonlocal_name, is_said};
-ghost use Rattle.py_scopes.specs.Members.{with_symbol};
+ghost use Rattle.py_scopes.specs.Members.{is_of_init, with_symbol};
 ghost use Rattle.py_scopes.specs.Tables.{symbol_in, names_said, AddsSaid};
 
 use crate::occurrence::{Occurrence, Role};
@@ -14,15 +14,16 @@ use std::alloc::Global;
 use std::marker::Model;
 
 /// The names that are said something of, each with the scope that it stands directly in.
-#[derive(Debug, Drop)]
+#[derive(Drop)]
 struct Names {
     bound: IndexSet<Symbol>,
     globals: IndexSet<Symbol>,
     nonlocals: IndexSet<Symbol>,
+    inits: IndexSet<Symbol>,
 }
 
 /// All occurrences, and what they say of names in scopes. A contract sees the occurrences.
-#[derive(Debug, Drop)]
+#[derive(Drop)]
 pub(crate) struct Said {
     all: List<Occurrence>,
     names: Names,
@@ -32,13 +33,14 @@ impl Model for Said {
     ghost use Rattle.std.specs.Prelude.{List};
     ghost use Rattle.py_scopes.specs.declared.occurrence.Occurrence.{Occurrence};
     ghost use Rattle.py_scopes.specs.Owner.{is_binding, is_global_name, is_nonlocal_name};
+    ghost use Rattle.py_scopes.specs.Members.{is_of_init};
     ghost use Rattle.py_scopes.specs.Tables.{HasSaid};
 
     ghost Value = { List Occurrence };
 
     ghost view = { λ s. s.all };
 
-    ghost invariant = { λ s. HasSaid is_binding s.all s.names.bound.keys × HasSaid is_global_name s.all s.names.globals.keys × HasSaid is_nonlocal_name s.all s.names.nonlocals.keys };
+    ghost invariant = { λ s. HasSaid is_binding s.all s.names.bound.keys × HasSaid is_global_name s.all s.names.globals.keys × HasSaid is_nonlocal_name s.all s.names.nonlocals.keys × HasSaid is_of_init s.all s.names.inits.keys };
 }
 
 /// The name in the innermost of these scopes.
@@ -70,10 +72,15 @@ fn add_said(names: &mut Names, occurrence: &Occurrence) -> Result<(), NoMemory>
     ensures bound { OnOk result (AddsSaid is_binding occurrence.now names.old.bound.keys names.new.bound.keys) }
     ensures globals { OnOk result (AddsSaid is_global_name occurrence.now names.old.globals.keys names.new.globals.keys) }
     ensures nonlocals { OnOk result (AddsSaid is_nonlocal_name occurrence.now names.old.nonlocals.keys names.new.nonlocals.keys) }
+    ensures inits { OnOk result (AddsSaid is_of_init occurrence.now names.old.inits.keys names.new.inits.keys) }
 {
     let symbol = symbol_in(occurrence.name, occurrence.scopes.as_slice());
     match occurrence.role {
-        Role::Binding | Role::FirstParameter => add_symbol(&mut names.bound, symbol),
+        Role::Binding | Role::FirstParameter(false) => add_symbol(&mut names.bound, symbol),
+        Role::FirstParameter(true) => {
+            add_symbol(&mut names.bound, symbol)?;
+            add_symbol(&mut names.inits, symbol)
+        }
         Role::Global => add_symbol(&mut names.globals, symbol),
         Role::Nonlocal => add_symbol(&mut names.nonlocals, symbol),
         _ => Ok(()),
@@ -85,11 +92,13 @@ fn names_said(alloc: Global, all: &[Occurrence]) -> Result<Names, NoMemory>
     ensures bound { IfOk result (λ names. names.bound.keys ≡ names_said is_binding all.now) }
     ensures globals { IfOk result (λ names. names.globals.keys ≡ names_said is_global_name all.now) }
     ensures nonlocals { IfOk result (λ names. names.nonlocals.keys ≡ names_said is_nonlocal_name all.now) }
+    ensures inits { IfOk result (λ names. names.inits.keys ≡ names_said is_of_init all.now) }
 {
     let mut names = Names {
         bound: IndexSet::new(alloc),
         globals: IndexSet::new(alloc),
         nonlocals: IndexSet::new(alloc),
+        inits: IndexSet::new(alloc),
     };
     for occurrence in all {
         add_said(&mut names, occurrence)?;
@@ -132,5 +141,12 @@ impl Said {
         ensures { result ≡ is_said is_nonlocal_name self.now scope name }
     {
         self.names.nonlocals.contains(&Symbol { scope, name })
+    }
+
+    /// Whether the name is the first parameter of an `__init__`, whose scope it is.
+    pub(crate) fn is_init(&self, scope: Scope, name: NameId) -> bool
+        ensures { result ≡ is_said is_of_init self.now scope name }
+    {
+        self.names.inits.contains(&Symbol { scope, name })
     }
 }

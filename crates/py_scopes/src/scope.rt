@@ -18,8 +18,10 @@ pub enum ScopeKind {
     Def,
     Lambda,
     Comprehension,
-    /// A list of type parameters, which may be empty.
+    /// A list of type parameters.
     TypeParameters,
+    /// The place of such a list in a form that has none. Nothing is bound in it.
+    NoTypeParameters,
 }
 
 /// A scope: the node that it belongs to, and what of that node it is.
@@ -65,7 +67,10 @@ impl Hash for Symbol {
 fn is_of_types(kind: ScopeKind) -> bool
     ensures { result ≡ is_of_types kind }
 {
-    matches!(kind, ScopeKind::TypeParameters)
+    matches!(
+        kind,
+        ScopeKind::TypeParameters | ScopeKind::NoTypeParameters
+    )
 }
 
 fn is_same_scope(one: Scope, other: Scope) -> bool
@@ -127,10 +132,11 @@ pub(crate) fn does_hide_classes(kind: ScopeKind) -> bool
 fn does_take_named(kind: ScopeKind) -> bool
     ensures { result ≡ takes_named kind }
 {
-    !matches!(kind, ScopeKind::Comprehension | ScopeKind::TypeParameters)
+    !matches!(kind, ScopeKind::Comprehension | ScopeKind::NoTypeParameters)
 }
 
-fn has_graph(kind: ScopeKind) -> bool
+/// Whether such a scope is run by a graph of its own.
+pub(crate) fn has_graph(kind: ScopeKind) -> bool
     ensures { result ≡ has_graph kind }
 {
     matches!(kind, ScopeKind::Module | ScopeKind::Def | ScopeKind::Lambda)
@@ -156,8 +162,8 @@ pub(crate) fn from_taker(scopes: &[Scope]) -> &[Scope]
     }
 }
 
-// From the first scope that has a graph outward.
-fn from_graph(scopes: &[Scope]) -> &[Scope]
+/// From the first scope that has a graph outward.
+pub(crate) fn from_graph(scopes: &[Scope]) -> &[Scope]
     ensures { result.now ≡ from_first has_graph scopes.now }
 {
     match scopes.split_first() {

@@ -1,6 +1,7 @@
 //! The search for the owner of a name, which asks tables of what is said in each scope.
 ghost use Rattle.std.specs.Prelude.{◌≡◌, IfOk};
 ghost use Rattle.py_scopes.specs.Owner.{is_global_name, is_nonlocal_name, is_said, owns, owning, home, has_symbol, decides, search_out, owner_scopes, symbol_if, symbol_of};
+ghost use Rattle.py_scopes.specs.Members.{is_of_init};
 ghost use Rattle.py_scopes.specs.Tables.{symbol_at, all_symbols};
 
 use crate::occurrence::Occurrence;
@@ -81,7 +82,7 @@ fn all_symbols(alloc: Global, said: &Said) -> Result<IndexSet<Symbol>, NoMemory>
 
 /// All occurrences, what they say of names, and the symbols that bindings belong to. A contract sees
 /// the occurrences.
-#[derive(Debug, Drop)]
+#[derive(Drop)]
 pub(crate) struct Search {
     said: Said,
     symbols: IndexSet<Symbol>,
@@ -135,6 +136,13 @@ impl Search {
         ensures { result ≡ is_said is_nonlocal_name self.now scope name }
     {
         self.said.is_nonlocal(scope, name)
+    }
+
+    /// Whether the name is the first parameter of an `__init__`, whose scope it is.
+    pub(crate) fn is_init(&self, scope: Scope, name: NameId) -> bool
+        ensures { result ≡ is_said is_of_init self.now scope name }
+    {
+        self.said.is_init(scope, name)
     }
 
     // From the scope outward whose name it is in a scope that binds or declares it.

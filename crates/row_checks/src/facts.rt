@@ -2,8 +2,8 @@
 
 use crate::sources::flow_of;
 use crate::{
-    classes, edges, faults, lines, listing, names, places, references, scopes, symbols, tokens,
-    trees,
+    builtins, classes, edges, faults, lines, listing, names, places, references, roles, scopes,
+    symbols, tokens, trees,
 };
 use py_base::NoMemory;
 use std::alloc::Global;
@@ -29,6 +29,8 @@ pub enum Subject {
     Spans,
     /// The owners of names, the symbols, and the members of classes.
     Scopes,
+    /// The roles of names, and what stands in the table of each symbol.
+    Symbols,
     /// The references that nodes stand for.
     Chains,
     /// The nodes that name `cast` of typing.
@@ -51,6 +53,8 @@ pub enum Subject {
     Cases,
     /// The orders of class statements.
     ClassOrder,
+    /// What the language brings along.
+    Builtins,
     /// The list of a text.
     Listing,
 }
@@ -67,10 +71,12 @@ pub fn facts(alloc: Global, subject: Subject, source: &str) -> Result<Vec<String
         Subject::Blocks => trees::facts(alloc, source),
         Subject::Spans => trees::span_facts(alloc, source),
         Subject::Scopes => scopes::facts(alloc, source),
+        Subject::Symbols => roles::facts(alloc, source),
         Subject::Chains => symbols::chain_facts(alloc, source),
         Subject::Casts => symbols::cast_facts(alloc, source),
         Subject::Tested => references::tested_facts(alloc, source),
         Subject::ClassOrder => classes::facts(alloc, source),
+        Subject::Builtins => builtins::facts(alloc, source),
         Subject::Listing => listing::facts(alloc, source),
         _ => flow_facts(alloc, subject, source),
     }

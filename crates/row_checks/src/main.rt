@@ -9,6 +9,7 @@
 //! Nothing here is claimed but safety; the facts are worked by hand, and never copied from what is printed.
 #![tactic(auto)]
 
+mod builtins;
 mod classes;
 mod edges;
 mod facts;
@@ -19,6 +20,7 @@ mod names;
 mod nodes;
 mod places;
 mod references;
+mod roles;
 mod rows;
 mod scopes;
 mod sources;
@@ -30,7 +32,7 @@ use facts::Subject;
 use std::{fs, io};
 
 /// The files of rows, and what each is about.
-const FILES: [(&str, Subject); 21] = [
+const FILES: [(&str, Subject); 23] = [
     ("names", Subject::Names),
     ("places", Subject::Places),
     ("tokens", Subject::Tokens),
@@ -40,6 +42,7 @@ const FILES: [(&str, Subject); 21] = [
     ("blocks", Subject::Blocks),
     ("spans", Subject::Spans),
     ("scopes", Subject::Scopes),
+    ("symbols", Subject::Symbols),
     ("chains", Subject::Chains),
     ("casts", Subject::Casts),
     ("edges", Subject::Edges),
@@ -51,6 +54,7 @@ const FILES: [(&str, Subject); 21] = [
     ("tested", Subject::Tested),
     ("cases", Subject::Cases),
     ("class_order", Subject::ClassOrder),
+    ("builtins", Subject::Builtins),
     ("listing", Subject::Listing),
 ];
 

@@ -1,21 +1,20 @@
 -- The diagnostics of a line, told by the antecedent of what it reads.
-use Rattle.std.proofs.Common.{◌≡◌, ◌<◌, ◌≤◌, ℕ, Bool, true, false, List, [], ◌∷◌, ◌++◌, length, take, drop, get_or, ◌+◌, Option, Some, None, is_none, option_map, option_and_then, option_to_list, slice_get, codes, if◌then◌else◌, refl, sym, ap, ◌∙◌, arith}
+use Rattle.std.proofs.Common.{◌≡◌, ◌<◌, ◌≤◌, ℕ, Bool, true, false, List, [], ◌∷◌, ◌++◌, length, take, drop, get_or, ◌+◌, Option, Some, None, is_none, option_map, option_and_then, option_to_list, slice_get, if◌then◌else◌, refl, sym, ap, ◌∙◌, arith}
 use Rattle.std.proofs.lemmas.List.{append-nil, append_assoc, at_drop_more}
 use Rattle.std.proofs.lemmas.Option.{option_and_then_some, slice_get_within, get_or_from_slice_get}
 use Rattle.py_base.specs.declared.span.Span.{Span}
 use Rattle.py_base.specs.declared.diag.Diag.{Diag}
-use Rattle.py_base.specs.declared.diag.Rule.TheVariants.{UndefinedName, Unbound}
 use Rattle.serial_session.specs.declared.form.NameUse.{NameUse}
 use Rattle.serial_session.specs.declared.form.Form.{Form}
 use Rattle.serial_session.specs.declared.antecedent.Antecedent.{Antecedent}
-use Rattle.serial_session.specs.Typing.{Types, Bindings, diag, quoted_name, is_bound_in, after, read_faults, line_diags, is_last, diags_behind}
+use Rattle.serial_session.specs.Typing.{Types, Bindings, unbound_at, undefined_at, is_bound_in, after, read_faults, line_diags, is_last, diags_behind}
 use Rattle.serial_session.specs.Antecedents.{last_binding, binding_below, antecedent_in, antecedent_of, read_of}
 use Rattle.serial_session.specs.LineDiags.{fault_by}
 use Rattle.serial_session.specs.LineTypes.{bound_behind, bound_above, type_at}
 use Rattle.serial_session.proofs.LineTypeLaws.{last_type, bound_behind-more}
 
 fault_in : (at : Span → List ℕ) (read : NameUse) (known : Bool) (types : ℕ → Types) (last : Option ℕ) →
-    (if known then (if is_none (option_map types last) then diag at read.span Unbound (quoted_name read.name ++ codes " is unbound") ∷ [] else []) else diag at read.span UndefinedName (quoted_name read.name ++ codes " is not defined") ∷ [])
+    (if known then (if is_none (option_map types last) then unbound_at at read ∷ [] else []) else undefined_at at read ∷ [])
     ≡ option_to_list (fault_by at read (Some (antecedent_in (if known then Some last else None))))
 fault_in at read true types None = refl
 fault_in at read true types (Some line) = refl
@@ -23,7 +22,7 @@ fault_in at read false types last = refl
 
 pub read_faults-by : (at : Span → List ℕ) (forms : List Form) (form : Form) (i : ℕ) (read : NameUse) → i ≤ length forms → read_faults at (is_bound_in forms) (bound_behind (is_bound_in forms) (take i forms)) read ≡ option_to_list (fault_by at read (Some (antecedent_in (binding_below (is_bound_in forms) (take i forms) read.name))))
 read_faults-by at forms form i read within =
-    ap (λ type. if is_bound_in forms read.name then (if is_none type then diag at read.span Unbound (quoted_name read.name ++ codes " is unbound") ∷ [] else []) else diag at read.span UndefinedName (quoted_name read.name ++ codes " is not defined") ∷ []) (last_type forms form read.name i within)
+    ap (λ type. if is_bound_in forms read.name then (if is_none type then unbound_at at read ∷ [] else []) else undefined_at at read ∷ []) (last_type forms form read.name i within)
     ∙ fault_in at read (is_bound_in forms read.name) (type_at forms) (last_binding (take i forms) read.name)
 
 -- what is read in the line of this number

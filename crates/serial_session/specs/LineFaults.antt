@@ -1,28 +1,24 @@
--- What is wrong with a line that has no form: its token fault, or else its form, each by a text of its own.
--- Python 3.12 language reference, 2 (lexical analysis); the texts and the two limits are this project's own.
-use Rattle.std.specs.Prelude.{ℕ, List, Option, Some, None, codes}
+-- What is wrong with a line that has no form: its token fault, or else its form.
+-- Python 3.12 language reference, 2 (lexical analysis).
+use Rattle.std.specs.Prelude.{ℕ, List, Option, Some, None}
 use Rattle.py_base.specs.declared.span.Span.{Span}
 use Rattle.py_base.specs.declared.diag.Diag.{Diag}
-use Rattle.py_base.specs.declared.diag.Rule.{Rule}
-use Rattle.py_base.specs.declared.diag.Rule.TheVariants.{Syntax, Limit}
 use Rattle.py_tokens.specs.declared.kinds.TokenFault.{TokenFault}
-use Rattle.py_tokens.specs.declared.kinds.TokenFault.TheVariants.{BadCharacter, UnclosedString, UnclosedBracket, BadDedent, NestingLimit, WideLiteral}
-use Rattle.serial_session.specs.Typing.{diag}
+use Rattle.py_tokens.specs.declared.kinds.TokenFault.TheVariants as faults
+use Rattle.diagnostics.specs.Messages.{diagnostic, notice_row}
+use Rattle.diagnostics.specs.declared.notice.Notice.{Notice}
+use Rattle.diagnostics.specs.declared.notice.Notice.TheVariants.{BadCharacter, UnclosedString, UnclosedBracket, BadDedent, NotAStatement, NestingLimit, WideLiteral}
 
-abbrev pub fault_rule : Option TokenFault → Rule
-fault_rule (Some NestingLimit) = Limit
-fault_rule (Some WideLiteral) = Limit
-fault_rule _ = Syntax
-
-abbrev pub fault_text : Option TokenFault → List ℕ
-fault_text None = codes "Statement is not valid"
-fault_text (Some BadCharacter) = codes "Invalid character in source"
-fault_text (Some UnclosedString) = codes "String is not closed"
-fault_text (Some UnclosedBracket) = codes "Bracket is not closed"
-fault_text (Some BadDedent) = codes "Indentation does not match any outer block"
-fault_text (Some NestingLimit) = codes "Nesting is deeper than 64"
-fault_text (Some WideLiteral) = codes "Integer is wider than 128 bits"
+-- what is said of a line with this token fault, or without one
+abbrev pub notice_of : Option TokenFault → Notice
+notice_of None = NotAStatement
+notice_of (Some faults.BadCharacter) = BadCharacter
+notice_of (Some faults.UnclosedString) = UnclosedString
+notice_of (Some faults.UnclosedBracket) = UnclosedBracket
+notice_of (Some faults.BadDedent) = BadDedent
+notice_of (Some faults.NestingLimit) = NestingLimit
+notice_of (Some faults.WideLiteral) = WideLiteral
 
 -- the diagnostic of a faulty line
 abbrev pub line_fault : (Span → List ℕ) → Span → Option TokenFault → Diag
-line_fault at span fault = diag at span (fault_rule fault) (fault_text fault)
+line_fault at span fault = diagnostic (at span) (notice_row (notice_of fault))

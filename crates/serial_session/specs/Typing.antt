@@ -2,15 +2,16 @@
 -- last line bound it to. What a line says of its names, and which diagnostics it has, follows from
 -- the names bound before it and from those that some line of the text binds.
 -- Python 3.12 language reference, 4.2 (naming and binding); typing specification, reveal_type() and Literal.
-use Rattle.std.specs.Prelude.{ℕ, List, [], ◌∷◌, ◌++◌, Bool, false, if◌then◌else◌, Option, Some, None, is_none, codes, length, ◌==◌}
+use Rattle.std.specs.Prelude.{ℕ, List, [], ◌∷◌, ◌++◌, Bool, false, if◌then◌else◌, Option, Some, None, is_none, length, ◌==◌}
 use Rattle.std.specs.List.{list_any}
 use Rattle.std.specs.Str.{bytes_eq}
 use Rattle.py_base.specs.declared.span.Span.{Span}
 use Rattle.py_base.specs.declared.diag.Diag.{Diag}
-use Rattle.py_base.specs.declared.diag.Rule.{Rule}
-use Rattle.py_base.specs.declared.diag.Rule.TheVariants.{RevealType, UndefinedName, Unbound}
 use Rattle.type_terms.specs.declared.atom.Atom.{Atom}
 use Rattle.type_terms.specs.declared.atom.Atom.TheVariants.{Lit, Unknown, None as NoneAtom}
+use Rattle.diagnostics.specs.Messages.{diagnostic, notice_row, message_row}
+use Rattle.diagnostics.specs.declared.message.Message.TheVariants.{RevealType}
+use Rattle.diagnostics.specs.declared.notice.Notice.TheVariants.{UndefinedName, Unbound}
 use Rattle.serial_session.specs.TypeText.{text_of}
 use Rattle.serial_session.specs.declared.form.NameUse.{NameUse}
 use Rattle.serial_session.specs.declared.form.Value.{Value}
@@ -60,34 +61,30 @@ abbrev pub after : (List ℕ → Bool) → Bindings → Form → Bindings
 after known bound (Binding target value) = bind bound target (value_type known bound value)
 after known bound (Reveal read) = bound
 
--- the diagnostic of this rule and text at a span; `at` gives the four numbers of a span
-abbrev pub diag : (Span → List ℕ) → Span → Rule → List ℕ → Diag
-diag at span rule text = record { at = at span; rule = rule; text = text }
+-- what is said of a read, at its span; `at` gives the four numbers of a span
+abbrev pub unbound_at : (Span → List ℕ) → NameUse → Diag
+unbound_at at read = diagnostic (at read.span) (notice_row (Unbound read.name))
 
-abbrev pub quoted_name : List ℕ → List ℕ
-quoted_name name = 34 ∷ (name ++ 34 ∷ [])
+abbrev pub undefined_at : (Span → List ℕ) → NameUse → Diag
+undefined_at at read = diagnostic (at read.span) (notice_row (UndefinedName read.name))
+
+abbrev pub revealed_at : (Span → List ℕ) → NameUse → Types → Diag
+revealed_at at read type = diagnostic (at read.span) (message_row text_of (RevealType type))
 
 -- a read of a name that no line binds is undefined, one of a name that is still unbound is unbound
 abbrev pub read_faults : (Span → List ℕ) → (List ℕ → Bool) → Bindings → NameUse → List Diag
 read_faults at known bound read =
-    if known read.name then
-    (if is_none (bound read.name) then diag at read.span Unbound (quoted_name read.name ++ codes " is unbound") ∷ [] else [])
-    else diag at read.span UndefinedName (quoted_name read.name ++ codes " is not defined") ∷ []
+    if known read.name then (if is_none (bound read.name) then unbound_at at read ∷ [] else []) else undefined_at at read ∷ []
 
 abbrev pub value_faults : (Span → List ℕ) → (List ℕ → Bool) → Bindings → Value → List Diag
 value_faults at known bound (Literal literal) = []
 value_faults at known bound NoneValue = []
 value_faults at known bound (Read read) = read_faults at known bound read
 
--- the text of what is revealed
-abbrev pub reveal_text : Types → List ℕ
-reveal_text type = codes "Type is \"" ++ (text_of type ++ codes "\"")
-
 -- the diagnostics of one line, in the order of lists
 abbrev pub line_diags : (Span → List ℕ) → (List ℕ → Bool) → Bindings → Form → List Diag
 line_diags at known bound (Binding target value) = value_faults at known bound value
-line_diags at known bound (Reveal read) =
-    diag at read.span RevealType (reveal_text (read_type known bound read.name)) ∷ read_faults at known bound read
+line_diags at known bound (Reveal read) = revealed_at at read (read_type known bound read.name) ∷ read_faults at known bound read
 
 -- behind a `reveal_type` whose argument is Never no line is reached
 abbrev pub is_last : (List ℕ → Bool) → Bindings → Form → Bool

@@ -3,9 +3,10 @@
 //!
 //! In one sentence: the bytes that `run` writes are the session machine's text of its journal, and each
 //! list in it is that of the text that stands open (`specs/Served.antt`, `specs/Machine.antt`).
-//! Below stand `edge_io` (bytes in and out), `py_tokens` (logical lines), `type_terms` (types and their
-//! text) and `py_base` (places, lists, texts). The modules here go the way of a line: `command`,
-//! `message`, `session` with `listing`, `reply`, and `serve` with its loop; `run` is the top call.
+//! Below stand `edge_io` (bytes in and out), `py_tokens` (logical lines), `type_terms` (types),
+//! `diagnostics` (what is said, and how) and `py_base` (places, lists, texts). The modules here go the way
+//! of a line: `command`, `message`, `session` with `listing`, `reply`, and `serve` with its loop; `run` is
+//! the top call.
 #![tactic(auto)]
 
 mod antecedent;

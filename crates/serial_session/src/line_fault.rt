@@ -1,11 +1,11 @@
 //! The diagnostics of faulty lines.
 ghost use Rattle.std.specs.Prelude.{◌≡◌, sum, IfOk};
 ghost use Rattle.py_tokens.specs.Spans.{IsSpanIn};
-ghost use Rattle.serial_session.specs.LineFaults.{fault_rule, fault_text, line_fault};
+ghost use Rattle.serial_session.specs.LineFaults.{notice_of, line_fault};
 ghost use Rattle.py_base.specs.Places.{at_of};
 
-use crate::diagnostic::diag_at;
-use py_base::{Diag, LineMap, NoMemory, Rule, Span, Text};
+use diagnostics::Notice;
+use py_base::{Diag, LineMap, NoMemory, Span};
 use py_tokens::TokenFault;
 use std::alloc::Global;
 
@@ -20,29 +20,19 @@ pub fn line_fault(
     requires { IsSpanIn (sum places.now) span }
     ensures { IfOk result (λ d. d ≡ line_fault (at_of places.now) span fault) }
 {
-    let text = Text::from_str(alloc, fault_text(fault))?;
-    Ok(diag_at(places, span, fault_rule(fault), text))
+    notice_of(fault).diagnostic(alloc, places.at(span))
 }
 
-fn fault_rule(fault: Option<TokenFault>) -> Rule
-    ensures { result ≡ fault_rule fault }
+fn notice_of(fault: Option<TokenFault>) -> Notice
+    ensures { result ≡ notice_of fault }
 {
     match fault {
-        Some(TokenFault::NestingLimit | TokenFault::WideLiteral) => Rule::Limit,
-        _ => Rule::Syntax,
-    }
-}
-
-fn fault_text(fault: Option<TokenFault>) -> &'static str
-    ensures { result.now ≡ fault_text fault }
-{
-    match fault {
-        None => "Statement is not valid",
-        Some(TokenFault::BadCharacter) => "Invalid character in source",
-        Some(TokenFault::UnclosedString) => "String is not closed",
-        Some(TokenFault::UnclosedBracket) => "Bracket is not closed",
-        Some(TokenFault::BadDedent) => "Indentation does not match any outer block",
-        Some(TokenFault::NestingLimit) => "Nesting is deeper than 64",
-        Some(TokenFault::WideLiteral) => "Integer is wider than 128 bits",
+        None => Notice::NotAStatement,
+        Some(TokenFault::BadCharacter) => Notice::BadCharacter,
+        Some(TokenFault::UnclosedString) => Notice::UnclosedString,
+        Some(TokenFault::UnclosedBracket) => Notice::UnclosedBracket,
+        Some(TokenFault::BadDedent) => Notice::BadDedent,
+        Some(TokenFault::NestingLimit) => Notice::NestingLimit,
+        Some(TokenFault::WideLiteral) => Notice::WideLiteral,
     }
 }

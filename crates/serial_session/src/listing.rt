@@ -2,13 +2,14 @@
 ghost use Rattle.std.specs.Prelude.{◌≡◌, ◌∷◌, [], sum, All, IfOk};
 ghost use Rattle.py_tokens.specs.Spans.{IsLineIn};
 ghost use Rattle.py_base.specs.Places.{at_of};
-ghost use Rattle.serial_session.specs.Listing.{list_of, list_of_lines, too_long};
+ghost use Rattle.serial_session.specs.Listing.{list_of, list_of_lines};
 ghost use Rattle.serial_session.specs.Reading.{IsReading};
 
 use crate::form::{Form, form_of};
 use crate::line_fault::line_fault;
 use crate::typing::typing_diags;
-use py_base::{Diag, LineMap, List, NoMemory, Rule, Span, Text};
+use diagnostics::{Notice, WHOLE_TEXT};
+use py_base::{Diag, LineMap, List, NoMemory, Span};
 use py_tokens::{LogicalLine, TokenFault, cut};
 use std::alloc::Global;
 
@@ -31,7 +32,7 @@ pub fn list_text(alloc: Global, text: &str) -> Result<List<Diag>, NoMemory>
     ensures { IfOk result (λ list. list ≡ list_of text.now) }
 {
     if text.len() > TEXT_LIMIT {
-        return only(alloc, too_long(alloc)?);
+        return only(alloc, Notice::TextLimit.diagnostic(alloc, WHOLE_TEXT)?);
     }
     let places = LineMap::new(alloc, text)?;
     let cut = cut(alloc, text)?;
@@ -65,18 +66,6 @@ fn read_lines(alloc: Global, lines: &[LogicalLine]) -> Result<Reading, NoMemory>
         }
     }
     Ok(Reading::Valid(forms))
-}
-
-// The diagnostic of a text above the limit.
-fn too_long(alloc: Global) -> Result<Diag, NoMemory>
-    ensures { IfOk result (λ d. d ≡ too_long) }
-{
-    let text = Text::from_str(alloc, "Text is longer than 524288 bytes")?;
-    Ok(Diag {
-        at: [0, 0, 0, 0],
-        rule: Rule::Limit,
-        text,
-    })
 }
 
 // The list of this diagnostic alone.

@@ -13,8 +13,8 @@ pub loop-place-preserved : goal.loop-place-preserved
 loop-place-preserved c =
     let parts = c.as_slice-parts.result.now in
     record {
-      rest = places-next c.args.tree.now.nodes c.args.at.0 c.node-node.result.now c.loop-place.place parts (get_or parts c.loop-place.place (record { 0 = 0 })) c.step_from.result
-          c.args.steps.now c.loop-place.steps c.add_step.new.steps (slice_get-get_or parts c.loop-place.place (record { 0 = 0 }) (omega arith)) c.step_from.ensures c.add_step.ensures.puts c.loop-place.invariant.rest;
+      rest = places-next c.args.tree.now.nodes c.args.at.0 c.node-node.result.now c.loop-place.place parts (get_or parts c.loop-place.place (record { 0 = 0 })) c.step_from-step.result
+          c.args.steps.now c.loop-place.steps c.add_step.new.steps (slice_get-get_or parts c.loop-place.place (record { 0 = 0 }) (omega arith)) c.step_from-step.ensures c.add_step.ensures.puts c.loop-place.invariant.rest;
       count = c.add_step.ensures.count ∙ c.loop-place.invariant.count;
     }
 

@@ -1,7 +1,7 @@
 use Rattle.std.proofs.Common.{◌≡◌, ◌+◌, drop}
 use Rattle.std.specs.List.{position_or_len}
 use Rattle.py_scopes.specs.Kinds.{is_for}
-use Rattle.py_scopes.specs.Way.{kind_at}
+use Rattle.py_base.specs.Nodes.{kind_at}
 use Rattle.py_scopes.proofs.way.first_for.Given as goal
 
 abbrev pub invariant-loop-place : goal.invariant-loop-place

@@ -4,9 +4,5 @@ use Rattle.py_scopes.proofs.way.way_out.Goals as goal
 
 pub loop-taken-preserved : goal.loop-taken-preserved
 loop-taken-preserved c =
-    let nodes = c.args.tree.now.nodes in
-    record {
-      way = steps-more nodes c.loop-taken.at c.loop-taken.way c.push.new.self c.loop-taken.taken c.in-Some.step (omega arith) (sym c.step_out.ensures.value ∙ c.in-Some.is) c.in_ok-push.ensures.ok
-          ∙ c.loop-taken.invariant.way;
-      within = c.in-Some.ensures.within;
-    }
+    steps-more c.args.tree.now.nodes c.loop-taken.at c.loop-taken.way c.push.new.self c.loop-taken.taken c.in-Some.step (omega arith) (sym c.step_out.ensures ∙ c.in-Some.is) c.in_ok-push.ensures.ok
+    ∙ c.loop-taken.invariant

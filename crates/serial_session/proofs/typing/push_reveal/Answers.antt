@@ -1,7 +1,6 @@
 use Rattle.std.proofs.Common.{◌++◌, [], ◌∷◌, ap, ◌∙◌}
 use Rattle.std.proofs.lemmas.List.{append_assoc}
-use Rattle.py_base.specs.declared.diag.Rule.TheVariants.{RevealType}
-use Rattle.serial_session.specs.Typing.{is_bound_in, diag, reveal_text, read_faults}
+use Rattle.serial_session.specs.Typing.{is_bound_in, revealed_at, read_faults}
 use Rattle.py_base.specs.Places.{at_of}
 use Rattle.serial_session.specs.LineTypes.{bound_above, type_in}
 use Rattle.serial_session.proofs.typing.push_reveal.Goals as goal
@@ -14,7 +13,7 @@ returns-clause-list c =
     let read = c.args.read.now in
     let list = c.args.list.now in
     let shown = c.line_type-shown.ensures.value ∙ ap (type_in (is_bound_in walk) (bound_above walk line)) c.requires.at in
-    let added = c.in_ok-revealed.ensures ∙ ap (λ type. diag at read.span RevealType (reveal_text type)) shown in
+    let added = c.in_ok-revealed.ensures ∙ ap (revealed_at at read) shown in
     c.in_ok-push_fault.ensures
     ∙ ap (λ lines. c.push.new.self ++ read_faults at (is_bound_in lines) (bound_above lines line) read) c.line_type-shown.ensures.same
     ∙ ap (λ more. more ++ read_faults at (is_bound_in walk) (bound_above walk line) read) c.in_ok-push.ensures.ok

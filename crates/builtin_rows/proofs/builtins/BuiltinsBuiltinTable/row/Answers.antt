@@ -1,4 +1,4 @@
-use Rattle.std.proofs.Common.{refl, Some, None}
+use Rattle.std.proofs.Common.{refl}
 use Rattle.builtin_rows.proofs.KeptLemmas.{row_kept}
 use Rattle.builtin_rows.proofs.builtins.BuiltinsBuiltinTable.row.Goals as goal
 

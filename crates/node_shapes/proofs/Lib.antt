@@ -1,0 +1,10 @@
+mod IdLists
+mod StepTables
+mod Ways
+mod Numbers
+mod Marks
+mod Members
+mod LastParts
+mod ParameterSteps
+mod Searching
+mod SeenSteps

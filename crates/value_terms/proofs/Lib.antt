@@ -1,0 +1,10 @@
+pub mod ListLemmas
+pub mod TermLaws
+pub mod AskLemmas
+pub mod ToldLemmas
+pub mod RankLemmas
+pub mod BindLemmas
+pub mod ChainLemmas
+pub mod AnsweringLemmas
+pub mod OutcomeLemmas
+pub mod EvaluationLemmas

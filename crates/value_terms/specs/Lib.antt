@@ -1,0 +1,9 @@
+pub mod Term
+pub mod Laws
+pub mod System
+pub mod Outcome
+pub mod Answering
+pub mod Asks
+pub mod Told
+pub mod Ranks
+pub mod Chain
