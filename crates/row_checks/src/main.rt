@@ -27,12 +27,13 @@ mod sources;
 mod symbols;
 mod tokens;
 mod trees;
+mod values;
 
 use facts::Subject;
 use std::{fs, io};
 
 /// The files of rows, and what each is about.
-const FILES: [(&str, Subject); 23] = [
+const FILES: [(&str, Subject); 24] = [
     ("names", Subject::Names),
     ("places", Subject::Places),
     ("tokens", Subject::Tokens),
@@ -43,6 +44,7 @@ const FILES: [(&str, Subject); 23] = [
     ("spans", Subject::Spans),
     ("scopes", Subject::Scopes),
     ("symbols", Subject::Symbols),
+    ("sources", Subject::Sources),
     ("chains", Subject::Chains),
     ("casts", Subject::Casts),
     ("edges", Subject::Edges),

@@ -1,0 +1,4 @@
+mod Handings
+mod Linking
+mod Shortened
+mod Decorators
