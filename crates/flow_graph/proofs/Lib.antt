@@ -1,3 +1,4 @@
+mod Belonging
 mod Closing
 mod Gathering
 mod Marking

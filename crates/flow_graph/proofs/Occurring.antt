@@ -1,8 +1,9 @@
 -- The references that occur at points, each once.
-use Rattle.std.proofs.Common.{◌≡◌, ℕ, ◌+◌, ◌<◌, Bool, true, false, ◌||◌, List, [], ◌∷◌, ◌++◌, length, refl, ap, sym, ◌∙◌, subst, ◌⊎◌, ◌↔◌, inl, inr, Option, None, Some, slice_get, get_or, take, if◌then◌else◌, rules, true≢false, arith, min, drop, ◌≤◌, length-append}
-use Rattle.std.specs.List.{list_any, IsDistinct}
+use Rattle.std.proofs.Common.{◌≡◌, ℕ, ◌+◌, ◌<◌, Bool, true, false, ◌||◌, List, [], ◌∷◌, ◌++◌, length, refl, ap, sym, ◌∙◌, subst, ◌⊎◌, ◌↔◌, inl, inr, Option, None, Some, slice_get, get_or, take, if◌then◌else◌, cond, eq-eqb, rules, true≢false, arith, min, drop, ◌≤◌, length-append}
+use borrow.Author.Tests.{eqb-true}
+use Rattle.std.specs.List.{list_any, flat_map, IsDistinct}
 use Rattle.std.proofs.lemmas.Option.{get_or_from_slice_get, slice_get_within}
-use Rattle.std.proofs.lemmas.List.{take_more, take_all, drop_all}
+use Rattle.std.proofs.lemmas.List.{take_more, take_all, drop_all, flat_map_more}
 use Rattle.std.proofs.lemmas.Bool.{cases_lt}
 use Rattle.std.proofs.Math.Nat.{eq-or-lt_of_le}
 use Rattle.std.proofs.lemmas.Map.Keys.{apart_from_distinct}
@@ -14,7 +15,10 @@ use Rattle.py_base.specs.contracts.ids.RefIdPartialEq.TheImpl.{eq-value}
 use Rattle.flow_rows.specs.declared.point.Point.{Point}
 use Rattle.flow_rows.specs.Flow.{Has}
 use Rattle.point_graph.specs.Graph.{Numbered}
-use Rattle.flow_graph.specs.Table.{OccursAt, OccursIn, AreOccurring, AreOnce, sizes}
+use Rattle.point_graph.specs.Order.{added_once}
+use Rattle.point_graph.proofs.Keys.{tests_alike}
+use Rattle.point_graph.proofs.Ordering.{added_both as items_both}
+use Rattle.flow_graph.specs.Table.{OccursAt, OccursIn, at_most_one, occurring_at, AreOccurring, AreOnce, same_id, sizes}
 use Rattle.node_references.proofs.Links.{get_snoc}
 
 same_self : (p : RefId) → eq-value.it p p ≡ true
@@ -60,12 +64,13 @@ any_has (x ∷ ks) k h = go (eq-value.it k x) refl (λ w. any_has ks k w)
     go false e rest = inr (rest (sym (ap (λ b. b || list_any (eq-value.it k) ks) e) ∙ h))
 
 insert_cases : (ks : List RefId) (k : RefId) (new : List RefId) → new ≡ insert_key eq-value.it ks k
-    → ((list_any (eq-value.it k) ks ≡ true) × (new ≡ ks)) ⊎ (new ≡ ks ++ k ∷ [])
+    → ((list_any (eq-value.it k) ks ≡ true) × (new ≡ ks)) ⊎ ((list_any (eq-value.it k) ks ≡ false) × (new ≡ ks ++ k ∷ []))
 insert_cases ks k new e = go (list_any (eq-value.it k) ks) refl
   where
-    go : (b : Bool) → list_any (eq-value.it k) ks ≡ b → ((list_any (eq-value.it k) ks ≡ true) × (new ≡ ks)) ⊎ (new ≡ ks ++ k ∷ [])
+    go : (b : Bool) → list_any (eq-value.it k) ks ≡ b
+        → ((list_any (eq-value.it k) ks ≡ true) × (new ≡ ks)) ⊎ ((list_any (eq-value.it k) ks ≡ false) × (new ≡ ks ++ k ∷ []))
     go true h = inl (h, e ∙ ap (λ b. if b then ks else ks ++ k ∷ []) h)
-    go false h = inr (e ∙ ap (λ b. if b then ks else ks ++ k ∷ []) h)
+    go false h = inr (h, e ∙ ap (λ b. if b then ks else ks ++ k ∷ []) h)
 
 insert_exact : (ks : List RefId) (k : RefId) (new : List RefId) → new ≡ insert_key eq-value.it ks k → (p : RefId) → Has new p ↔ (Has ks p ⊎ (k ≡ p))
 insert_exact ks k new e p = elim (insert_cases ks k new e) [
@@ -74,10 +79,26 @@ insert_exact ks k new e p = elim (insert_cases ks k new e) [
     λ w. subst (λ (l : List RefId). Has l p) (sym h.1) (elim w [ inl a ↦ a | inr q ↦ subst (λ (y : RefId). Has ks y) q (any_has ks k h.0) ]),
   )
   | inr h ↦ (
-    λ w. elim (has_split ks (k ∷ []) p (subst (λ (l : List RefId). Has l p) h w)) [ inl a ↦ inl a | inr b ↦ elim b [ inl q ↦ inr q | inr never ↦ absurd never ] ],
-    λ w. subst (λ (l : List RefId). Has l p) (sym h) (elim w [ inl a ↦ has_left ks (k ∷ []) p a | inr q ↦ subst (λ (y : RefId). Has (ks ++ k ∷ []) y) q (has_last ks k) ]),
+    λ w. elim (has_split ks (k ∷ []) p (subst (λ (l : List RefId). Has l p) h.1 w)) [ inl a ↦ inl a | inr b ↦ elim b [ inl q ↦ inr q | inr never ↦ absurd never ] ],
+    λ w. subst (λ (l : List RefId). Has l p) (sym h.1) (elim w [ inl a ↦ has_left ks (k ∷ []) p a | inr q ↦ subst (λ (y : RefId). Has (ks ++ k ∷ []) y) q (has_last ks k) ]),
   )
 ]
+
+-- a number comes to a set
+pub id_added : (ks : List RefId) (k : RefId) (new : List RefId) → new ≡ insert_key eq-value.it ks k → new ≡ added_once same_id ks (k ∷ [])
+id_added ks k new e = elim (insert_cases ks k new e) [
+  | inl h ↦ h.1 ∙ sym (ap (λ (b : Bool). cond b ks (ks ++ k ∷ [])) (among_alike ks k ∙ h.0))
+  | inr h ↦ h.1 ∙ sym (ap (λ (b : Bool). cond b ks (ks ++ k ∷ [])) (among_alike ks k ∙ h.0))
+]
+  where
+    id_self : (i : RefId) → same_id i i ≡ true
+    id_self i = eq-eqb i.0 i.0 refl
+
+    id_sound : (i j : RefId) → same_id i j ≡ true → i ≡ j
+    id_sound i j h = ap (λ (n : ℕ). record { 0 = n }) (eqb-true i.0 j.0 h)
+
+    among_alike : (ks : List RefId) (k : RefId) → list_any (same_id k) ks ≡ list_any (eq-value.it k) ks
+    among_alike ks k = tests_alike same_id eq-value.it id_self id_sound same_self same_true ks k
 
 some_same : {A : Type 0} (x y : A) → Some x ≡ Some y → x ≡ y
 some_same x y h = cc h
@@ -136,6 +157,17 @@ occurs_next points reads bindings ids i old new lt f g r =
           ],
     )
 
+pub listed_next : (points : List Point) (reads : List (Option RefId)) (bindings : List (Option (RefId × NodeId))) (ids : List PointId) (i : ℕ) (old new : List RefId)
+    → i < length ids → old ≡ added_once same_id [] (flat_map (occurring_at points reads bindings) (take i ids))
+    → new ≡ added_once same_id old (occurring_at points reads bindings (get_or ids i no_point))
+    → new ≡ added_once same_id [] (flat_map (occurring_at points reads bindings) (take (i + 1) ids))
+listed_next points reads bindings ids i old new lt told one =
+    let f : PointId → List RefId = occurring_at points reads bindings in
+    one ∙ ap (λ (l : List RefId). added_once same_id l (f (get_or ids i no_point))) told
+    ∙ sym (items_both same_id [] (flat_map f (take i ids)) (f (get_or ids i no_point)))
+    ∙ ap (λ (l : List RefId). added_once same_id [] l)
+    (flat_map_more f [] (take i ids) (get_or ids i no_point) ∙ ap (λ (l : List PointId). flat_map f l) (sym (take_more ids i no_point lt)))
+
 pub occurs_none : (points : List Point) (reads : List (Option RefId)) (bindings : List (Option (RefId × NodeId))) (r : RefId)
     → Has [] r ↔ OccursIn points reads bindings [] r
 occurs_none points reads bindings r = (λ w. absurd w, λ (p, has, at). absurd has)
@@ -164,13 +196,15 @@ size_done g graphs i size total m past fits told =
 
 -- behind the last point
 pub occurs_all : (points : List Point) (reads : List (Option RefId)) (bindings : List (Option (RefId × NodeId))) (ids : List PointId) (i : ℕ) (keys refs : List RefId)
-    → length ids ≤ i → ((r : RefId) → Has keys r ↔ OccursIn points reads bindings (take i ids) r) → AreOnce keys → refs ≡ keys
+    → length ids ≤ i → ((r : RefId) → Has keys r ↔ OccursIn points reads bindings (take i ids) r) → AreOnce keys
+    → keys ≡ added_once same_id [] (flat_map (occurring_at points reads bindings) (take i ids)) → refs ≡ keys
     → AreOccurring points reads bindings ids refs
-occurs_all points reads bindings ids i keys refs past exact once same =
+occurs_all points reads bindings ids i keys refs past exact once listed same =
     let whole : take i ids ≡ ids = take_all i ids past in
     subst (λ (l : List RefId). AreOccurring points reads bindings ids l) (sym same) (record {
       exact = subst (λ (l : List PointId). (r : RefId) → Has keys r ↔ OccursIn points reads bindings l r) whole exact;
       once = once;
+      listed = listed ∙ ap (λ (l : List PointId). added_once same_id [] (flat_map (occurring_at points reads bindings) l)) whole;
     })
 
 pub more_long : (graphs new : List (List RefId)) (x : List RefId) (at : ℕ) → length graphs ≡ at → new ≡ graphs ++ x ∷ [] → length new ≡ at + 1

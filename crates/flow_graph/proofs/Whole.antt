@@ -47,6 +47,8 @@ references_right a os g nodes marks reads bindings tests graphs size table bound
     (subst (λ (l : List (Option RefId)). IsTable (λ (i : ℕ). test_by a marks.run marks.bound subjects l (record { 0 = i })) (length a.nodes) tests) masked test) in
     record {
       apart = right.apart;
+      each = λ i r at. let (n, lt, is) = right.each i r at in (n, is);
+      ordered = right.ordered;
       prefixes = right.prefixes;
       reads = reads_right a os g.points nodes.list table marks.run marks.bound reads known runs bounds read;
       bindings = bindings_right a os g.points nodes.list table marks.bound bindings known bounds

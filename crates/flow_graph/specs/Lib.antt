@@ -4,3 +4,4 @@ pub mod Tests
 pub mod Numbering
 pub mod Table
 pub mod Graph
+pub mod Laws

@@ -1,6 +1,6 @@
 -- What is known of the references of a tree's graphs, by numbers: which reference has which number, which of them occur in a graph, and
 -- which are read, bound and tested where (numbers are this project's own; Python 3.12 language reference, 4.2, for what is bound).
-use Rattle.std.specs.Prelude.{ℕ, ◌≡◌, ◌<◌, ◌+◌, ◌*◌, ◌^◌, ◌-◌, min, List, [], ◌∷◌, Option, None, Some, slice_get, length, ◌⊎◌, ◌↔◌, IfSome}
+use Rattle.std.specs.Prelude.{ℕ, ◌≡◌, ◌<◌, ◌+◌, ◌*◌, ◌^◌, ◌-◌, min, Bool, nat_eq, List, [], ◌∷◌, ◌++◌, Option, None, Some, slice_get, length, ◌⊎◌, ◌↔◌, IfSome}
 use Rattle.py_base.specs.declared.ids.NodeId.{NodeId}
 use Rattle.py_base.specs.declared.ids.PointId.{PointId}
 use Rattle.py_base.specs.declared.ids.RefId.{RefId}
@@ -11,8 +11,11 @@ use Rattle.flow_rows.specs.declared.point.Role.{Role}
 use Rattle.flow_rows.specs.declared.point.Role.TheVariants as roles
 use Rattle.flow_rows.specs.Flow.{Has}
 use Rattle.point_graph.specs.Graph.{Numbered, points_or}
+use Rattle.point_graph.specs.Order.{added_once}
+use Rattle.std.specs.List.{flat_map}
 use Rattle.node_references.specs.Reference.{Reference}
-use Rattle.node_references.specs.Numbers.{AreApart, flat, IsNumberOf, IsPrefixOf}
+use Rattle.node_references.specs.References.{reference_of}
+use Rattle.node_references.specs.Numbers.{AreApart, flat, IsNumberOf, IsPrefixOf, AreInOrder}
 use Rattle.flow_graph.specs.declared.table.References.{References}
 use Rattle.flow_graph.specs.Bindings.{read, binding}
 use Rattle.flow_graph.specs.declared.condition.TestForm.{TestForm}
@@ -40,14 +43,27 @@ OccursAt points reads bindings p r = (read_at reads (slice_get points p.0) ≡ S
 abbrev pub OccursIn : List Point → List (Option RefId) → List (Option (RefId × NodeId)) → List PointId → RefId → Type 0
 OccursIn points reads bindings ids r = (p : PointId) × Has ids p × OccursAt points reads bindings p r
 
+-- what a point reads, and what it binds
+abbrev pub at_most_one : Option RefId → List RefId
+at_most_one None = []
+at_most_one (Some r) = r ∷ []
+
+abbrev pub occurring_at : List Point → List (Option RefId) → List (Option (RefId × NodeId)) → PointId → List RefId
+occurring_at points reads bindings p = at_most_one (read_at reads (slice_get points p.0)) ++ at_most_one (bound_id (flat (slice_get bindings p.0)))
+
+-- one number
+abbrev pub same_id : RefId → RefId → Bool
+same_id one other = nat_eq one.0 other.0
+
 -- no reference stands twice
 abbrev pub AreOnce : List RefId → Type 0
 AreOnce refs = (i j : ℕ) (r : RefId) → slice_get refs i ≡ Some r → slice_get refs j ≡ Some r → i ≡ j
 
--- THE REFERENCES OF A GRAPH: those that occur in it, each once
+-- THE REFERENCES OF A GRAPH: those that occur in it, each once, in the order of its points
 pub record AreOccurring (points : List Point) (reads : List (Option RefId)) (bindings : List (Option (RefId × NodeId))) (ids : List PointId) (refs : List RefId) : Type 0 where
   pub exact : (r : RefId) → Has refs r ↔ OccursIn points reads bindings ids r
   pub once : AreOnce refs
+  pub listed : refs ≡ added_once same_id [] (flat_map (occurring_at points reads bindings) ids)
 
 -- numbers of references, of which there are so many
 abbrev pub AreBelow : ℕ → List RefId → Type 0
@@ -97,6 +113,8 @@ IsConditionOf list (Some x) (Some c) = (slice_get list x.0.0 ≡ Some c.0) × (x
 -- THE REFERENCES OF A TREE'S GRAPHS
 pub record AreReferences (a : Arena) (os : List Owner) (g : Numbered) (t : References) : Type 0 where
   pub apart : AreApart t.list
+  pub each : (i : ℕ) (r : Reference) → slice_get t.list i ≡ Some r → (n : NodeId) × (reference_of a os n ≡ Some r)
+  pub ordered : AreInOrder a os t.list
   pub prefixes : (i : ℕ) (r : Reference) → slice_get t.list i ≡ Some r → IsPrefixOf t.list (flat (slice_get t.prefixes i)) r
   pub reads : (n : NodeId) → IsNumberOf t.list (flat (slice_get t.reads n.0)) (read a os g.points n)
   pub bindings : (p : PointId) → IsBindingOf t.list (flat (slice_get t.bindings p.0)) (binding a os (slice_get g.points p.0))

@@ -1,10 +1,11 @@
 //! Which references occur in each graph.
-ghost use Rattle.std.specs.Prelude.{◌≡◌, ℕ, ◌<◌, ◌-◌, ◌*◌, ◌^◌, min, List, IfOk, OnOk, Some, slice_get, length, ◌⊎◌, ◌↔◌};
+ghost use Rattle.std.specs.Prelude.{◌≡◌, ℕ, ◌<◌, ◌-◌, ◌*◌, ◌^◌, min, List, [], IfOk, OnOk, Some, slice_get, length, ◌⊎◌, ◌↔◌};
 ghost use Rattle.py_base.specs.declared.ids.RefId.{RefId};
 ghost use Rattle.flow_rows.specs.Flow.{Has};
 ghost use Rattle.point_graph.specs.Graph.{points_or};
+ghost use Rattle.point_graph.specs.Order.{added_once};
 ghost use Rattle.node_references.specs.Numbers.{flat};
-ghost use Rattle.flow_graph.specs.Table.{read_at, bound_id, OccursAt, AreOnce, AreOccurring, sizes};
+ghost use Rattle.flow_graph.specs.Table.{read_at, bound_id, OccursAt, AreOnce, AreOccurring, same_id, sizes, at_most_one, occurring_at};
 
 use flow_rows::Role;
 use indexmap::IndexSet;
@@ -17,6 +18,7 @@ use std::alloc::Global;
 fn add_some(refs: &mut IndexSet<RefId>, found: Option<RefId>) -> Result<(), NoMemory>
     ensures exact { OnOk result ((r : RefId) → Has refs.new.keys r ↔ (Has refs.old.keys r ⊎ (found ≡ Some r))) }
     ensures once { OnOk result (AreOnce refs.old.keys → AreOnce refs.new.keys) }
+    ensures listed { OnOk result (refs.new.keys ≡ added_once same_id refs.old.keys (at_most_one found)) }
 {
     match found {
         None => Ok(()),
@@ -56,6 +58,7 @@ fn add_occurring(
 ) -> Result<(), NoMemory>
     ensures exact { OnOk result ((r : RefId) → Has refs.new.keys r ↔ (Has refs.old.keys r ⊎ OccursAt graph.now.points reads.now bindings.now point r)) }
     ensures once { OnOk result (AreOnce refs.old.keys → AreOnce refs.new.keys) }
+    ensures listed { OnOk result (refs.new.keys ≡ added_once same_id refs.old.keys (occurring_at graph.now.points reads.now bindings.now point)) }
 {
     add_some(refs, read_at(graph, reads, point))?;
     add_some(refs, bound_at(bindings, point))?;

@@ -20,6 +20,7 @@ mod condition;
 mod filling;
 mod graph;
 mod graphs;
+pub mod laws;
 mod subjects;
 mod table;
 mod targets;

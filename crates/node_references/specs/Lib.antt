@@ -5,3 +5,4 @@ pub mod Chains
 pub mod Numbers
 pub mod Numbering
 pub mod Casts
+pub mod Laws

@@ -36,11 +36,18 @@ abbrev pub IsPrefixOf : List Reference → Option (RefId × NameId) → Referenc
 IsPrefixOf list None r = r.names ≡ []
 IsPrefixOf list (Some x) r = (q : Reference) × (slice_get list x.0.0 ≡ Some q) × (r ≡ member q x.1)
 
--- THE REFERENCES THAT THE NODES OF A TREE STAND FOR, and no others: each has one number, with each the one before its last name, and each node has
--- the number of the reference that it stands for
+-- references come in the order of the nodes where they first stand: one stands before all nodes of each that comes behind it
+abbrev pub AreInOrder : Arena → List Owner → List Reference → Type 0
+AreInOrder a os list =
+    (i j : ℕ) (r q : Reference) → i < j → slice_get list i ≡ Some r → slice_get list j ≡ Some q
+    → (n : NodeId) × (reference_of a os n ≡ Some r) × ((m : NodeId) → reference_of a os m ≡ Some q → n.0 < m.0)
+
+-- THE REFERENCES THAT THE NODES OF A TREE STAND FOR, and no others, in their order: each has one number, with each the one before its last name, and
+-- each node has the number of the reference that it stands for
 pub record AreNodeReferences (a : Arena) (os : List Owner) (r : NodeReferences) : Type 0 where
   pub apart : AreApart r.list
   pub prefixes : (i : ℕ) (one : Reference) → slice_get r.list i ≡ Some one → IsPrefixOf r.list (flat (slice_get r.prefixes i)) one
   pub each : (i : ℕ) (one : Reference) → slice_get r.list i ≡ Some one → (n : NodeId) × (n.0 < length a.nodes) × (reference_of a os n ≡ Some one)
+  pub ordered : AreInOrder a os r.list
   pub long : length r.numbers ≡ length a.nodes
   pub exact : (n : NodeId) → IsNumberOf r.list (flat (slice_get r.numbers n.0)) (reference_of a os n)

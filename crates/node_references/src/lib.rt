@@ -20,6 +20,7 @@
 #![tactic(auto)]
 
 mod imports;
+pub mod laws;
 mod marks;
 mod naming;
 mod nodes;

@@ -4,7 +4,7 @@ ghost use Rattle.py_base.specs.declared.ids.NodeId.{NodeId};
 ghost use Rattle.node_references.specs.Reference.{Reference};
 ghost use Rattle.std.specs.Option.{option_copied};
 ghost use Rattle.node_references.specs.References.{of_owner, of_attribute, by_shape};
-ghost use Rattle.node_references.specs.Numbers.{flat, IsNumberOf, AreNodeReferences};
+ghost use Rattle.node_references.specs.Numbers.{flat, IsNumberOf, AreInOrder, AreNodeReferences};
 ghost use Rattle.node_references.specs.Numbering.{Keeps, GrowsBy, AreOfNodes, AreLinked, AreNumbersOf, IsBelow, IsPartBelow, AreKnown};
 
 use crate::nodes::name_of;
@@ -119,6 +119,7 @@ fn referred(
     ensures known { IfOk result (λ table. AreKnown tree.now scopes.now.owners numbering.new.list table) }
     ensures linked { OnOk result (AreLinked numbering.new.links.keys numbering.new.list) }
     ensures each { OnOk result (numbering.old.list ≡ [] → AreOfNodes tree.now scopes.now.owners numbering.new.list (length tree.now.nodes)) }
+    ensures ordered { OnOk result (numbering.old.list ≡ [] → AreInOrder tree.now scopes.now.owners numbering.new.list) }
 {
     let mut table = List::new(alloc);
     for place in 0..tree.node_count() {

@@ -15,7 +15,11 @@ use Rattle.point_graph.specs.declared.numbers.Step.{Step}
 use Rattle.point_graph.specs.declared.members.Members.{Members}
 use Rattle.point_graph.specs.Numbers.{IsApart, Keeps, IsNumber}
 use Rattle.point_graph.specs.Members.{IsMembers, IsGraphAt, AreGraphs, IsHome}
-use Rattle.point_graph.specs.Building.{IsListOf, Enters, Joins, AreMore, Adds, AddsAt, IsDraft, IsPointBelow}
+use Rattle.std.specs.List.{flat_map}
+use Rattle.flow_rows.specs.Edges.{both_ends, graph_edges, graph_points}
+use Rattle.point_graph.specs.Order.{same_point, added_once, points_of, roots_below}
+use Rattle.point_graph.specs.Building.{IsListOf, Enters, Joins, AreMore, AreStepsBy, Comes, Continues, Adds, AddsAt, IsDraft, IsPointBelow}
+use Rattle.point_graph.proofs.Ordering.{added_both, numbers_kept, comes_both, roots_skip, roots_take, steps_more}
 use Rattle.point_graph.proofs.Keys.{get_append, place_of, push_cases}
 use Rattle.point_graph.proofs.Steps.{same_id}
 use Rattle.point_graph.proofs.Entering.{enters_both, enters_as, step_kept}
@@ -46,8 +50,11 @@ pub graph_made : (forms : List Form) (t : List Ends) (root : NodeId) (edges : Li
     → IsNumber points_2 end (end_point forms t root)
     → Enters (record { 0 = root.0 }) (Joins edges) points_2 points_3 homes_2 homes_3 list_2 list_3
     → AreMore points_3 (Has edges) steps new_steps
+    → edges ≡ graph_edges forms t root
+    → Comes (start root ∷ []) points points_1 [] list_1 → Comes (end_point forms t root ∷ []) points_1 points_2 list_1 list_2
+    → Comes (flat_map both_ends edges) points_2 points_3 list_2 list_3 → Continues points_3 edges steps new_steps
     → Adds forms t root points points_3 homes homes_3 steps new_steps (record { points = list_3; end = end })
-graph_made forms t root edges points points_1 points_2 points_3 homes homes_1 homes_2 homes_3 list_1 list_2 list_3 steps new_steps end told a b at c more =
+graph_made forms t root edges points points_1 points_2 points_3 homes homes_1 homes_2 homes_3 list_1 list_2 list_3 steps new_steps end told a b at c more is first last ends listed =
     let graph : GraphId = record { 0 = root.0 } in
     let joins : (p : Point) → ((start root ≡ p ⊎ end_point forms t root ≡ p) ⊎ Joins edges p) ↔ IsPointOf forms t root p = λ p. (
       λ h. elim h [
@@ -63,6 +70,10 @@ graph_made forms t root edges points points_1 points_2 points_3 homes homes_1 ho
     let all : Enters graph (IsPointOf forms t root) points points_3 homes homes_3 [] list_3
     = enters_as graph (λ p. (start root ≡ p ⊎ end_point forms t root ≡ p) ⊎ Joins edges p) (IsPointOf forms t root) points points_3 homes homes_3 [] list_3 joins three in
     let f = first_there graph (start root) points points_1 homes homes_1 list_1 a in
+    let come : Comes (graph_points forms t root) points points_3 [] list_3
+    = comes_both (start root ∷ []) (end_point forms t root ∷ flat_map both_ends (graph_edges forms t root)) points points_1 points_3 [] list_1 list_3 first
+    (comes_both (end_point forms t root ∷ []) (flat_map both_ends (graph_edges forms t root)) points_1 points_2 points_3 list_1 list_2 list_3 last
+    (subst (λ (l : List Edge). Comes (flat_map both_ends l) points_2 points_3 list_2 list_3) is ends)) in
     record {
       numbering = all.numbering;
       keeps = all.keeps;
@@ -77,6 +88,7 @@ graph_made forms t root edges points points_1 points_2 points_3 homes homes_1 ho
               subst (λ (x : PointId). Has list_3 x) (same_id k.0 id (all.numbering.apart k.0.0 id.0 r.0 k.2 r.1)) k.1,
         );
         once = all.of.once;
+        listed = come.own [] refl;
         end = c.keeps end.0 (end_point forms t root) at;
       };
       edges = record {
@@ -84,6 +96,8 @@ graph_made forms t root edges points points_1 points_2 points_3 homes homes_1 ho
         sound = λ s h. elim (more.sound s h) [ inl o ↦ inl o | inr r ↦ inr (r.0, (told r.0).0 r.1, r.2) ];
         known = λ e h. more.known e ((told e).1 h);
       };
+      all = come.all;
+      listed = subst (λ (l : List Edge). Continues points_3 l steps new_steps) is listed;
     }
 
 run_no : (o : Option (List NodeId)) → is_some o ≡ false → HasRun o → ⊥
@@ -117,6 +131,7 @@ members_kept forms t old new root m kept apart had h = record {
         (h.exact id).1 (r.0, subst (λ (n : ℕ). slice_get old n ≡ Some r.0) (apart k.0 id.0 r.0 (kept k.0 r.0 k.1) r.1) k.1, r.2),
   );
   once = h.once;
+  listed = numbers_kept old new m.points (points_of forms t root) kept h.listed;
   end = kept m.end.0 (end_point forms t root) h.end;
 }
 
@@ -181,6 +196,8 @@ draft_none forms t = record {
   each = (refl, λ n m h. absurd (cc h));
   home = λ i g h. absurd (cc h);
   edges = record { sound = λ s h. absurd h; known = λ e r. absurd (omega (arith, r.1)) };
+  all = refl;
+  listed = tt;
 }
 
 -- no point has a graph that comes
@@ -217,6 +234,8 @@ draft_more forms t n points new_points homes new_homes steps new_steps graphs ma
         sound = λ s h. let r = d.edges.sound s h in (r.0, (r.1.0, omega (arith, r.1.1), r.1.2, r.1.3), r.2);
         known = λ e r. d.edges.known e (r.0, lower r.0 r.1 r.2, r.2, r.3);
       };
+      all = d.all ∙ ap (λ (l : List Point). added_once same_point [] l) (sym (roots_skip (graph_points forms t) forms n a.0));
+      listed = subst (λ (l : List Edge). AreStepsBy points l steps) (sym (roots_skip (graph_edges forms t) forms n a.0)) d.listed;
     } in
     subst (λ (l : List Point). IsDraft forms t (n + 1) l new_homes new_steps made) (sym a.1)
     (subst (λ (l : List GraphId). IsDraft forms t (n + 1) points l new_steps made) (sym a.2)
@@ -249,6 +268,10 @@ draft_more forms t n points new_points homes new_homes steps new_steps graphs ma
           | inr q ↦ adds.edges.known e (subst (λ (x : NodeId). IsEdgeOf forms t x e) (same_node r.0 n q) r.3)
         ];
       };
+      all = adds.all ∙ ap (λ (l : List Point). added_once same_point l (graph_points forms t root)) d.all
+          ∙ sym (added_both same_point [] (flat_map (graph_points forms t) (roots_below forms n)) (graph_points forms t root))
+          ∙ ap (λ (l : List Point). added_once same_point [] l) (sym (roots_take (graph_points forms t) forms n a.0));
+      listed = steps_more forms t n points new_points steps new_steps a.0 adds.keeps d.listed adds.listed;
     }
   where
     same_or_other : (i j : ℕ) → (i ≡ j) ⊎ (i ≡ j → ⊥)

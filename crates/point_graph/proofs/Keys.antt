@@ -73,22 +73,42 @@ insert_keeps ks k new e = elim (insert_cases ks k new e) [
 pub same_true : (p q : Point) → eq-value.it p q ≡ true → p ≡ q
 same_true p q h = search (h, rules)
 
-pub any_has : (ks : List Point) (k : Point) → list_any (eq-value.it k) ks ≡ true → Has ks k
-any_has [] k h = absurd (true≢false (sym h))
-any_has (x ∷ ks) k h = go (eq-value.it k x) refl (λ w. any_has ks k w)
+-- a test that is true of equals alone finds just what is there
+pub among_has : {A : Type 0} (same : A → A → Bool) → ((x y : A) → same x y ≡ true → x ≡ y) → (xs : List A) (x : A) → list_any (same x) xs ≡ true → Has xs x
+among_has same sound [] x h = absurd (true≢false (sym h))
+among_has {A} same sound (y ∷ xs) x h = go (same x y) refl (λ w. among_has same sound xs x w)
   where
-    go : (b : Bool) → eq-value.it k x ≡ b → (list_any (eq-value.it k) ks ≡ true → Has ks k) → Has (x ∷ ks) k
-    go true e rest = inl (sym (same_true k x e))
-    go false e rest = inr (rest (sym (ap (λ b. b || list_any (eq-value.it k) ks) e) ∙ h))
+    go : (b : Bool) → same x y ≡ b → (list_any (same x) xs ≡ true → Has xs x) → Has (y ∷ xs) x
+    go true e rest = inl (sym (sound x y e))
+    go false e rest = inr (rest (sym (ap (λ b. b || list_any (same x) xs) e) ∙ h))
 
-pub has_any : (ks : List Point) (k : Point) → Has ks k → list_any (eq-value.it k) ks ≡ true
-has_any [] k h = absurd h
-has_any (x ∷ ks) k (inl h) = ap (λ b. b || list_any (eq-value.it k) ks) (subst (λ (y : Point). eq-value.it k y ≡ true) (sym h) (same_self k))
-has_any (x ∷ ks) k (inr h) = go (eq-value.it k x) (has_any ks k h)
+pub has_among : {A : Type 0} (same : A → A → Bool) → ((x : A) → same x x ≡ true) → (xs : List A) (x : A) → Has xs x → list_any (same x) xs ≡ true
+has_among same self [] x h = absurd h
+has_among {A} same self (y ∷ xs) x (inl h) = ap (λ b. b || list_any (same x) xs) (subst (λ (z : A). same x z ≡ true) (sym h) (self x))
+has_among {A} same self (y ∷ xs) x (inr h) = go (same x y) (has_among same self xs x h)
   where
-    go : (b : Bool) → list_any (eq-value.it k) ks ≡ true → (b || list_any (eq-value.it k) ks) ≡ true
+    go : (b : Bool) → list_any (same x) xs ≡ true → (b || list_any (same x) xs) ≡ true
     go true e = refl
     go false e = e
+
+pub both_or_neither : (a b : Bool) → (a ≡ true → b ≡ true) → (b ≡ true → a ≡ true) → a ≡ b
+both_or_neither true true f g = refl
+both_or_neither false false f g = refl
+both_or_neither true false f g = sym (f refl)
+both_or_neither false true f g = g refl
+
+-- two such tests find the same
+pub tests_alike : {A : Type 0} (one other : A → A → Bool) → ((x : A) → one x x ≡ true) → ((x y : A) → one x y ≡ true → x ≡ y)
+    → ((x : A) → other x x ≡ true) → ((x y : A) → other x y ≡ true → x ≡ y) → (xs : List A) (x : A) → list_any (one x) xs ≡ list_any (other x) xs
+tests_alike one other one_self one_sound other_self other_sound xs x = both_or_neither (list_any (one x) xs) (list_any (other x) xs)
+    (λ h. has_among other other_self xs x (among_has one one_sound xs x h))
+    (λ h. has_among one one_self xs x (among_has other other_sound xs x h))
+
+pub any_has : (ks : List Point) (k : Point) → list_any (eq-value.it k) ks ≡ true → Has ks k
+any_has ks k h = among_has eq-value.it same_true ks k h
+
+pub has_any : (ks : List Point) (k : Point) → Has ks k → list_any (eq-value.it k) ks ≡ true
+has_any ks k h = has_among eq-value.it same_self ks k h
 
 pub insert_exact : (ks : List Point) (k : Point) (new : List Point) → new ≡ insert_key eq-value.it ks k → (p : Point) → Has new p ↔ (Has ks p ⊎ (k ≡ p))
 insert_exact ks k new e p = elim (insert_cases ks k new e) [

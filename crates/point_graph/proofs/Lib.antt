@@ -1,8 +1,11 @@
 pub mod Keys
 pub mod Steps
 pub mod Entering
+pub mod Ordering
 pub mod Drafts
 pub mod Starting
 pub mod Whole
 pub mod Places
 pub mod Laying
+pub mod Leading
+pub mod Listing

@@ -1,5 +1,5 @@
 -- A draft of all nodes with the edges to the starts is the graph of the tree.
-use Rattle.std.proofs.Common.{◌≡◌, ℕ, ◌<◌, ◌^◌, List, [], ◌∷◌, Option, None, Some, refl, ap, sym, ◌∙◌, subst, ◌↔◌, inl, inr, length, slice_get, map, zero, suc, option_map}
+use Rattle.std.proofs.Common.{◌≡◌, ℕ, ◌<◌, ◌^◌, List, [], ◌∷◌, ◌++◌, Option, None, Some, refl, ap, sym, ◌∙◌, subst, ◌↔◌, inl, inr, length, slice_get, map, zero, suc, option_map}
 use Rattle.std.proofs.lemmas.List.{length-map}
 use Rattle.std.proofs.lemmas.Option.{slice_get_within, slice_get-get_or, slice_get-map}
 use Rattle.smallvec.specs.SmallVec.{SmallVec}
@@ -15,16 +15,20 @@ use Rattle.flow_rows.specs.Flow.{Has, HasRun, run_by, HasGraph, IsPoint, IsEdge}
 use Rattle.point_graph.specs.declared.numbers.Step.{Step}
 use Rattle.point_graph.specs.declared.incoming.Way.{Way}
 use Rattle.point_graph.specs.declared.members.Members.{Members}
-use Rattle.point_graph.specs.Numbers.{lists, list_at, into}
+use Rattle.point_graph.specs.Numbers.{lists, list_at, way_begin, into}
 use Rattle.point_graph.specs.declared.runs.Run.{Run}
 use Rattle.point_graph.specs.Runs.{part, parts}
 use Rattle.point_graph.specs.Operands.{operands_of}
-use Rattle.point_graph.specs.Building.{AreMore, AreStepsOf, IsDraft, IsPointBelow, IsStartBelow}
+use Rattle.std.specs.List.{flat_map}
+use Rattle.flow_rows.specs.Edges.{graph_edges}
+use Rattle.point_graph.specs.Order.{roots, roots_below, start_edge, all_points, all_edges, edges_to, begin_of}
+use Rattle.point_graph.specs.Building.{AreMore, AreStepsOf, AreStepsBy, IsDraft, IsPointBelow, IsStartBelow, Continues}
+use Rattle.point_graph.proofs.Ordering.{steps_all, into_ordered}
 use Rattle.point_graph.specs.Graph.{Numbered, AreNumbered, IsClosed, listed_or}
 use Rattle.point_graph.proofs.Steps.{ways_exact, no_point}
 
 -- a node with a graph is one of the forms
-graph_within : (forms : List Form) (n : NodeId) → HasGraph forms n → n.0 < length forms
+pub graph_within : (forms : List Form) (n : NodeId) → HasGraph forms n → n.0 < length forms
 graph_within forms n h = go (slice_get forms n.0) refl h
   where
     go : (o : Option Form) → slice_get forms n.0 ≡ o → HasRun (run_by o) → n.0 < length forms
@@ -63,13 +67,14 @@ draft_by forms t seen n points homes steps graphs e d = subst (λ (l : List Ends
 pub graph_whole : (forms : List Form) (t : List Ends) (g : Numbered) (steps new_steps : List Step) (ways : List (SmallVec Way)) (count : ℕ)
     → IsDraft forms t (length forms) g.points g.homes steps g.graphs
     → AreMore g.points (IsStartBelow forms g.points (length forms)) steps new_steps
+    → Continues g.points (flat_map (start_edge g.points) (roots_below forms (length forms))) steps new_steps
     → count ≡ length g.points → length ways ≡ count
     → ((j : ℕ) → j < count → list_at (lists ways) j ≡ into j new_steps)
     → g.antecedents ≡ map (λ (ws : List Way). map (λ (w : Way). w.from) ws) (lists ways)
     → g.kinds ≡ map (λ (ws : List Way). map (λ (w : Way). w.kind) ws) (lists ways)
     → g.operands ≡ operands_of forms → g.ends ≡ t
     → AreNumbered forms t g
-graph_whole forms t g steps new_steps ways count d more counted long at sources labels operands ends = record {
+graph_whole forms t g steps new_steps ways count d more starting counted long at sources labels operands ends = record {
   apart = d.numbering.apart;
   points = λ p. (λ h. (points_whole forms t p).0 ((d.exact p).0 h), λ h. (d.exact p).1 ((points_whole forms t p).1 h));
   graphs = d.each;
@@ -87,6 +92,14 @@ graph_whole forms t g steps new_steps ways count d more counted long at sources 
         λ h. split.0 (subst (λ (x : List Way). Has x w) here h),
         λ r. subst (λ (x : List Way). Has x w) (sym here) (split.1 r),
       );
+  listed = d.all;
+  ordered = λ j q at-j.
+      let here : list_at (lists ways) j ≡ into j new_steps = at j (subst (λ (n : ℕ). j < n) (sym counted) (slice_get_within g.points j q at-j)) in
+      let by : AreStepsBy g.points (flat_map (graph_edges forms t) (roots forms) ++ flat_map (start_edge g.points) (roots forms)) new_steps
+      = steps_all g.points (flat_map (graph_edges forms t) (roots forms)) (flat_map (start_edge g.points) (roots forms)) steps new_steps d.listed starting in
+      let all : AreStepsBy g.points (all_edges forms t) new_steps
+      = subst (λ (l : List Point). AreStepsBy g.points (flat_map (graph_edges forms t) (roots forms) ++ flat_map (start_edge l) (roots forms)) new_steps) d.all by in
+      ap (λ (ws : List Way). map (way_begin g.points) ws) here ∙ into_ordered g.points (all_edges forms t) new_steps d.numbering.apart all j q at-j;
 }
 
 lengths : {A : Type 0} (f : Way → A) (ways : List (List Way)) → map length (map (λ (ws : List Way). map f ws) ways) ≡ map length ways
@@ -138,14 +151,15 @@ long_at (x ∷ xs) (y ∷ ys) (suc j) h = long_at xs ys j (cc h)
 pub graph_closed : (forms : List Form) (t : List Ends) (g : Numbered) (steps new_steps : List Step) (ways : List (SmallVec Way)) (count : ℕ)
     → IsDraft forms t (length forms) g.points g.homes steps g.graphs
     → AreMore g.points (IsStartBelow forms g.points (length forms)) steps new_steps
+    → Continues g.points (flat_map (start_edge g.points) (roots_below forms (length forms))) steps new_steps
     → count ≡ length g.points → length ways ≡ count
     → ((j : ℕ) → j < count → list_at (lists ways) j ≡ into j new_steps)
     → g.antecedents ≡ map (λ (ws : List Way). map (λ (w : Way). w.from) ws) (lists ways)
     → g.kinds ≡ map (λ (ws : List Way). map (λ (w : Way). w.kind) ws) (lists ways)
     → g.operands ≡ operands_of forms → g.ends ≡ t
     → IsClosed g
-graph_closed forms t g steps new_steps ways count d more counted long at sources labels operands ends =
-    closed forms t g (graph_whole forms t g steps new_steps ways count d more counted long at sources labels operands ends) d.numbering.few
+graph_closed forms t g steps new_steps ways count d more starting counted long at sources labels operands ends =
+    closed forms t g (graph_whole forms t g steps new_steps ways count d more starting counted long at sources labels operands ends) d.numbering.few
 
 -- the list at a number is that at its run
 pub part_at : {A : Type 0} (xs : List A) (runs : List Run) (j : ℕ) (r : Run) → slice_get runs j ≡ Some r → slice_get (parts xs runs) j ≡ Some (part xs r)

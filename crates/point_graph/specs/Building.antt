@@ -1,6 +1,6 @@
 -- How far a build of graphs has come: the points, edges and steps of the graphs up to a node. The contracts of the build alone cite this;
 -- what a graph is stands in Graph.antt (Python 3.12 language reference, sections 6 to 8, has the flow).
-use Rattle.std.specs.Prelude.{ℕ, ◌≡◌, ◌<◌, ◌+◌, ◌^◌, List, Option, None, Some, slice_get, length, is_some, true, false, ◌⊎◌, ◌↔◌}
+use Rattle.std.specs.Prelude.{ℕ, ◌≡◌, ◌<◌, ◌+◌, ◌^◌, List, [], ◌∷◌, ◌++◌, Option, None, Some, slice_get, length, cond, is_some, true, false, ◌⊎◌, ◌↔◌}
 use Rattle.py_base.specs.declared.ids.NodeId.{NodeId}
 use Rattle.py_base.specs.declared.ids.GraphId.{GraphId}
 use Rattle.py_base.specs.declared.ids.PointId.{PointId}
@@ -13,8 +13,11 @@ use Rattle.flow_rows.specs.declared.ends.Ends.{Ends}
 use Rattle.flow_rows.specs.Flow.{Has, run_at, HasGraph, IsEdgeOf, IsPointOf}
 use Rattle.point_graph.specs.declared.numbers.Step.{Step}
 use Rattle.point_graph.specs.declared.members.Members.{Members}
-use Rattle.point_graph.specs.Numbers.{IsApart, Keeps, IsNumber, IsStep}
+use Rattle.point_graph.specs.Numbers.{IsApart, Keeps, IsNumber, IsStep, AreNumbersOf}
 use Rattle.point_graph.specs.Members.{IsMembers, AreGraphs, IsHome}
+use Rattle.std.specs.List.{flat_map}
+use Rattle.flow_rows.specs.Edges.{graph_edges, graph_points}
+use Rattle.point_graph.specs.Order.{same_point, added_once, roots_below, start_edge}
 
 -- one of the edges joins this point
 abbrev pub Joins : List Edge → Point → Type 0
@@ -44,6 +47,26 @@ pub record AreMore (points : List Point) (IsOne : Edge → Type 0) (old new : Li
   pub old_stay : (s : Step) → Has old s → Has new s
   pub sound : (s : Step) → Has new s → Has old s ⊎ ((e : Edge) × IsOne e × IsStep points e s)
   pub known : (e : Edge) → IsOne e → (s : Step) × Has new s × IsStep points e s
+
+-- the steps are these edges in their order, by the numbers of their points
+abbrev pub AreStepsBy : List Point → List Edge → List Step → Type 0
+AreStepsBy points [] [] = Unit {0}
+AreStepsBy points [] (s ∷ steps) = ⊥
+AreStepsBy points (e ∷ edges) [] = ⊥
+AreStepsBy points (e ∷ edges) (s ∷ steps) = IsStep points e s × AreStepsBy points edges steps
+
+-- these edges came to the steps, in their order and behind the others
+abbrev pub Continues : List Point → List Edge → List Step → List Step → Type 0
+Continues points edges old new = (added : List Step) × AreStepsBy points edges added × (new ≡ old ++ added)
+
+-- the edge to the start of a node's graph, if it has one
+abbrev pub start_at : List Form → List Point → NodeId → List Edge
+start_at forms points root = cond (is_some (run_at forms root)) (start_edge points root) []
+
+-- these points came in their order: to all points, and to those of a graph
+pub record Comes (more points new_points : List Point) (list new_list : List PointId) : Type 0 where
+  pub all : new_points ≡ added_once same_point points more
+  pub own : (ps : List Point) → AreNumbersOf points list ps → AreNumbersOf new_points new_list (added_once same_point ps more)
 
 -- each point has one number, and each number a graph
 pub record IsNumbering (points : List Point) (homes : List GraphId) : Type 0 where
@@ -84,6 +107,8 @@ pub record Adds (forms : List Form) (t : List Ends) (root : NodeId) (points new_
   pub of : IsListOf new_homes (record { 0 = root.0 }) m.points
   pub members : IsMembers forms t new_points root m
   pub edges : AreMore new_points (IsEdgeOf forms t root) steps new_steps
+  pub all : new_points ≡ added_once same_point points (graph_points forms t root)
+  pub listed : Continues new_points (graph_edges forms t root) steps new_steps
 
 -- the graph of a node came to others, if it has one
 abbrev pub AddsAt : List Form → List Ends → NodeId → List Point → List Point → List GraphId → List GraphId → List Step → List Step → Option Members → Type 0
@@ -99,3 +124,5 @@ pub record IsDraft (forms : List Form) (t : List Ends) (n : ℕ) (points : List 
   pub each : AreGraphs forms t points n graphs
   pub home : (i : ℕ) (g : GraphId) → slice_get homes i ≡ Some g → IsHome graphs (record { 0 = i }) g
   pub edges : AreStepsOf points (IsInnerBelow forms t n) steps
+  pub all : points ≡ added_once same_point [] (flat_map (graph_points forms t) (roots_below forms n))
+  pub listed : AreStepsBy points (flat_map (graph_edges forms t) (roots_below forms n)) steps

@@ -18,7 +18,8 @@ use Rattle.point_graph.specs.declared.incoming.Way.{Way}
 use Rattle.point_graph.specs.declared.members.Members.{Members}
 use Rattle.point_graph.specs.Annotations.{run_forms}
 use Rattle.point_graph.specs.Members.{AreGraphs, AreHomes}
-use Rattle.point_graph.specs.Numbers.{IsApart, IsNumber, AreWithin, list_at}
+use Rattle.point_graph.specs.Numbers.{IsApart, IsNumber, AreWithin, list_at, way_begin}
+use Rattle.point_graph.specs.Order.{all_points, all_edges, edges_to, begin_of}
 use Rattle.point_graph.specs.Operands.{operands_of}
 
 -- what the clauses of `PointGraph` see: the points by their numbers, for each number where edges to it come from, and their kinds, the points
@@ -33,7 +34,7 @@ pub record Numbered : Type 0 where
   pub ends : List Ends
 
 -- Just the points of the graphs have numbers, each one. The ways to a number are the edges that lead to its point: place by place, where
--- each comes from, and its kind.
+-- each comes from, and its kind. Points are numbered in their order, and the edges to a point stand in theirs, each as often as it is listed.
 pub record AreNumbered (forms : List Form) (t : List Ends) (g : Numbered) : Type 0 where
   pub apart : IsApart g.points
   pub points : (p : Point) → Has g.points p ↔ IsPoint forms t p
@@ -47,6 +48,9 @@ pub record AreNumbered (forms : List Form) (t : List Ends) (g : Numbered) : Type
   pub labels : g.kinds ≡ map (λ (ws : List Way). map (λ (w : Way). w.kind) ws) ways
   pub exact : (w : Way) (j : ℕ) (q : Point) → slice_get g.points j ≡ Some q
       → Has (list_at ways j) w ↔ ((p : Point) × IsNumber g.points w.from p × IsEdge forms t (edge p q w.kind))
+  pub listed : g.points ≡ all_points forms t
+  pub ordered : (j : ℕ) (q : Point) → slice_get g.points j ≡ Some q
+      → map (way_begin g.points) (list_at ways j) ≡ map begin_of (edges_to (all_edges forms t) q)
 
 -- THE GRAPHS OF A TREE, where the marked nodes name `cast`
 abbrev pub IsGraph : Arena → List Bool → Numbered → Type 0

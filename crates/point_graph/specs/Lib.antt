@@ -1,7 +1,9 @@
 pub mod Numbers
 pub mod Members
+pub mod Order
 pub mod Building
 pub mod Operands
 pub mod Runs
 pub mod Annotations
 pub mod Graph
+pub mod Laws

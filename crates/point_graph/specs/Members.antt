@@ -10,13 +10,15 @@ use Rattle.flow_rows.specs.Points.{start}
 use Rattle.flow_rows.specs.declared.ends.Ends.{Ends}
 use Rattle.flow_rows.specs.Flow.{Has, run_at, end_point, IsPointOf}
 use Rattle.point_graph.specs.declared.members.Members.{Members}
-use Rattle.point_graph.specs.Numbers.{IsApart, IsNumber}
+use Rattle.point_graph.specs.Numbers.{IsApart, IsNumber, AreNumbersOf}
+use Rattle.point_graph.specs.Order.{points_of}
 
--- these are the points of a graph, each once, the start first, and this is its end
+-- these are the points of a graph in their order, each once, the start first, and this is its end
 pub record IsMembers (forms : List Form) (t : List Ends) (points : List Point) (root : NodeId) (m : Members) : Type 0 where
   pub first : (id : PointId) × (slice_get m.points 0 ≡ Some id) × IsNumber points id (start root)
   pub exact : (id : PointId) → Has m.points id ↔ ((p : Point) × IsNumber points id p × IsPointOf forms t root p)
   pub once : IsApart m.points
+  pub listed : AreNumbersOf points m.points (points_of forms t root)
   pub end : IsNumber points m.end (end_point forms t root)
 
 -- the graph of a node, where it has one

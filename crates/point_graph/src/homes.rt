@@ -1,10 +1,13 @@
 //! Points come to graphs.
-ghost use Rattle.std.specs.Prelude.{◌≡◌, ℕ, ◌<◌, ◌≤◌, IfOk, OnOk, IsTrue, Some, slice_get, length, ◌⊎◌, ◌↔◌};
+ghost use Rattle.std.specs.Prelude.{◌≡◌, ℕ, ◌<◌, ◌≤◌, [], ◌∷◌, IfOk, OnOk, IsTrue, Some, slice_get, length, ◌⊎◌, ◌↔◌};
 ghost use Rattle.py_base.specs.declared.ids.PointId.{PointId};
 ghost use Rattle.flow_rows.specs.declared.point.Point.{Point};
 ghost use Rattle.flow_rows.specs.Flow.{Has};
-ghost use Rattle.point_graph.specs.Numbers.{Keeps, IsNumber};
-ghost use Rattle.point_graph.specs.Building.{GrowsTo, IsListOf, TakesAlone, IsNumbering, Enters, Joins, AreMore};
+ghost use Rattle.point_graph.specs.Numbers.{Keeps, IsNumber, same_number};
+ghost use Rattle.std.specs.List.{flat_map};
+ghost use Rattle.flow_rows.specs.Edges.{both_ends};
+ghost use Rattle.point_graph.specs.Order.{added_once};
+ghost use Rattle.point_graph.specs.Building.{GrowsTo, IsListOf, TakesAlone, IsNumbering, Enters, Joins, AreMore, Comes, Continues};
 
 use crate::numbers::{Step, number};
 use flow_rows::{Edge, Point};
@@ -53,6 +56,7 @@ fn mark(
     ensures of { OnOk result (IsListOf homes.new graph list.new) }
     ensures alone { OnOk result (TakesAlone graph homes.old homes.new) }
     ensures list { OnOk result ((x : PointId) → Has list.new x ↔ (Has list.old x ⊎ (id ≡ x))) }
+    ensures listed { OnOk result (list.new ≡ added_once same_number list.old (id ∷ [])) }
     ensures keeps { OnOk result (Keeps list.old list.new) }
     ensures grows { OnOk result (GrowsTo (length homes.old) (length homes.new) id.0) }
 {
@@ -76,6 +80,7 @@ pub fn enter(
     ensures at { IfOk result (λ id. IsNumber numbering.new.points.keys id point) }
     ensures enters { OnOk result (Enters graph (λ p. point ≡ p) numbering.old.points.keys numbering.new.points.keys
         numbering.old.homes numbering.new.homes list.old list.new) }
+    ensures comes { OnOk result (Comes (point ∷ []) numbering.old.points.keys numbering.new.points.keys list.old list.new) }
 {
     let id = number(&mut numbering.points, point)?;
     mark(&mut numbering.homes, list, id, graph)?;
@@ -96,6 +101,8 @@ pub fn enter_edges(
     ensures enters { OnOk result (Enters graph (Joins edges.now) numbering.old.points.keys numbering.new.points.keys
         numbering.old.homes numbering.new.homes list.old list.new) }
     ensures steps { OnOk result (AreMore numbering.new.points.keys (Has edges.now) steps.old steps.new) }
+    ensures comes { OnOk result (Comes (flat_map both_ends edges.now) numbering.old.points.keys numbering.new.points.keys list.old list.new) }
+    ensures listed { OnOk result (Continues numbering.new.points.keys edges.now steps.old steps.new) }
 {
     for edge in edges {
         let from = enter(numbering, list, graph, edge.from)?;

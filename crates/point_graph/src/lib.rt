@@ -17,6 +17,7 @@ mod annotations;
 mod graph;
 mod homes;
 mod incoming;
+pub mod laws;
 mod members;
 mod numbers;
 mod operands;

@@ -1,8 +1,9 @@
 //! Numbers of points.
-ghost use Rattle.std.specs.Prelude.{◌≡◌, ℕ, ◌<◌, ◌^◌, IfOk, OnOk, IfSome, IsNone, length, ◌⊎◌, ◌↔◌};
+ghost use Rattle.std.specs.Prelude.{◌≡◌, ℕ, ◌<◌, ◌^◌, [], ◌∷◌, IfOk, OnOk, IfSome, IsNone, length, ◌⊎◌, ◌↔◌};
 ghost use Rattle.flow_rows.specs.declared.point.Point.{Point};
 ghost use Rattle.flow_rows.specs.Flow.{Has};
 ghost use Rattle.point_graph.specs.Numbers.{IsApart, Keeps, IsNumber};
+ghost use Rattle.point_graph.specs.Order.{same_point, added_once};
 ghost use Rattle.point_graph.specs.Building.{GrowsTo};
 
 use flow_rows::{EdgeKind, Point};
@@ -29,6 +30,7 @@ pub fn number(points: &mut IndexSet<Point>, point: Point) -> Result<PointId, NoM
     ensures apart { OnOk result (IsApart points.new.keys) }
     ensures grows { IfOk result (λ id. GrowsTo (length points.old.keys) (length points.new.keys) id.0) }
     ensures few { OnOk result (length points.new.keys < 2 ^ 32) }
+    ensures listed { OnOk result (points.new.keys ≡ added_once same_point points.old.keys (point ∷ [])) }
 {
     if points.len() >= POINT_ROOM {
         return Err(NoMemory);

@@ -3,7 +3,9 @@ ghost use Rattle.std.specs.Prelude.{ℕ, ◌<◌, ◌^◌, OnOk, length};
 ghost use Rattle.py_base.specs.declared.ids.NodeId.{NodeId};
 ghost use Rattle.flow_rows.specs.Points.{start};
 ghost use Rattle.flow_rows.specs.Flow.{Has, HasGraph};
-ghost use Rattle.point_graph.specs.Building.{IsStartOf, IsStartBelow, AreMore};
+ghost use Rattle.point_graph.specs.Building.{IsStartOf, IsStartBelow, AreMore, Continues, start_at};
+ghost use Rattle.point_graph.specs.Order.{roots_below, start_edge};
+ghost use Rattle.std.specs.List.{flat_map};
 
 use crate::numbers::{Step, find};
 use flow_rows::{EdgeKind, Form, Point, has_graph};
@@ -19,7 +21,8 @@ fn add_start(
 ) -> Result<(), NoMemory>
     requires few { length points.now.keys < 2 ^ 32 }
     requires starts { HasGraph forms.now root → Has points.now.keys (start root) }
-    ensures { OnOk result (AreMore points.now.keys (IsStartOf forms.now points.now.keys root) steps.old steps.new) }
+    ensures steps { OnOk result (AreMore points.now.keys (IsStartOf forms.now points.now.keys root) steps.old steps.new) }
+    ensures listed { OnOk result (Continues points.now.keys (start_at forms.now points.now.keys root) steps.old steps.new) }
 {
     if !has_graph(forms, root) {
         return Ok(());
@@ -47,7 +50,8 @@ pub fn add_starts(
     requires few { length forms.now < 2 ^ 32 }
     requires room { length points.now.keys < 2 ^ 32 }
     requires starts { (root : NodeId) → HasGraph forms.now root → Has points.now.keys (start root) }
-    ensures { OnOk result (AreMore points.now.keys (IsStartBelow forms.now points.now.keys (length forms.now)) steps.old steps.new) }
+    ensures steps { OnOk result (AreMore points.now.keys (IsStartBelow forms.now points.now.keys (length forms.now)) steps.old steps.new) }
+    ensures listed { OnOk result (Continues points.now.keys (flat_map (start_edge points.now.keys) (roots_below forms.now (length forms.now))) steps.old steps.new) }
 {
     for at in 0..forms.len() {
         add_start(forms, points, NodeId(at as u32), steps)?;

@@ -9,6 +9,7 @@ returns c = record {
   prefixes = prefixes_right c.referred.new.numbering.links.keys c.referred.new.numbering.list c.in_ok-prefixes.prefixes c.in_ok-numbers.ensures.linked
       (c.in_ok-prefixes.ensures ∙ ap (map prefix_of) c.as_slice.ensures.keys);
   each = c.in_ok-numbers.ensures.each c.new-2.ensures;
+  ordered = c.in_ok-numbers.ensures.ordered c.new-2.ensures;
   long = c.in_ok-numbers.ensures.long;
   exact = c.in_ok-numbers.ensures.known;
 }

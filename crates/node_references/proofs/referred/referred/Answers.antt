@@ -7,6 +7,7 @@ use Rattle.node_references.specs.References.{shape_at, by_shape}
 use Rattle.node_references.specs.Numbers.{IsNumberOf}
 use Rattle.node_references.specs.Numbering.{AreNumbersOf, AreOfNodes, AreKnownBelow}
 use Rattle.node_references.proofs.Within.{shape_older, parts_below, number_here, of_nodes_more, known_more, known_all}
+use Rattle.node_references.proofs.Ordering.{order_more}
 use Rattle.node_references.proofs.referred.referred.Goals as goal
 
 pub number_of_shape-requires-clause-linked : goal.number_of_shape-requires-clause-linked
@@ -22,6 +23,7 @@ pub loop-place-init : goal.loop-place-init
 loop-place-init c = record {
   long = rw c.new-table.ensures refl;
   each = λ e i r at. absurd (cc (sym (ap (λ (l : List Reference). slice_get l i) e) ∙ at));
+  ordered = λ e i j r q lt at. absurd (cc (sym (ap (λ (l : List Reference). slice_get l i) e) ∙ at));
   linked = c.requires.linked;
   known = λ n lt. absurd (omega (arith, lt));
 }
@@ -43,6 +45,9 @@ loop-place-preserved c =
           (c.loop-place.invariant.each e) c.in_ok-id.ensures.alone
           (number_here c.args.tree.now c.args.scopes.now.owners c.loop-place.numbering.list c.number_of_shape.new.numbering.list c.loop-place.table n c.in_ok-id.id
           c.node_count-place-end.ensures.linked c.loop-place.invariant.known numbered);
+      ordered = λ e. order_more c.args.tree.now c.args.scopes.now.owners c.loop-place.numbering.list c.number_of_shape.new.numbering.list c.loop-place.table n c.in_ok-id.id
+          (c.loop-place.invariant.ordered e) (c.loop-place.invariant.each e) c.loop-place.invariant.known c.in_ok-id.ensures.keeps c.in_ok-id.ensures.alone
+          c.in_ok-id.ensures.linked.apart;
       linked = c.in_ok-id.ensures.linked;
       known = known_more c.args.tree.now c.args.scopes.now.owners c.loop-place.numbering.list c.number_of_shape.new.numbering.list c.loop-place.table c.push.new.self n c.in_ok-id.id
           c.node_count-place-end.ensures.linked c.loop-place.invariant.long c.loop-place.invariant.known c.in_ok-id.ensures.keeps numbered c.in_ok-push.ensures.ok;
@@ -52,6 +57,9 @@ pub returns-clause-each : goal.returns-clause-each
 returns-clause-each c =
     let done : c.loop-place.place ≡ length c.args.tree.now.nodes = omega (arith, c.loop-place-test.false, c.loop-place.auto.place-end, c.node_count-place-end.ensures.count) in
     λ e. subst (λ k. AreOfNodes c.args.tree.now c.args.scopes.now.owners c.loop-place.numbering.list k) done (c.loop-place.invariant.each e)
+
+pub returns-clause-ordered : goal.returns-clause-ordered
+returns-clause-ordered c = c.loop-place.invariant.ordered
 
 pub returns-clause-known : goal.returns-clause-known
 returns-clause-known c =

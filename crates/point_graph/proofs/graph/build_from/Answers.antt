@@ -15,7 +15,7 @@ grouped-requires c =
     let steps = c.add_starts.new.steps in
     rw (c.len.ensures.len, c.as_slice-2.ensures) (steps_below (length points) steps (to_below points (IsEdge c.args.forms.now c.args.ends) steps
     (steps_whole c.args.forms.now c.args.ends points c.all_graphs.new.numbering.homes c.all_graphs.new.steps steps c.in_ok-graphs.graphs
-    (draft_by c.args.forms.now c.args.ends _ _ _ _ _ _ c.as_slice.ensures c.in_ok-graphs.ensures) c.in_ok-add_starts.ensures)))
+    (draft_by c.args.forms.now c.args.ends _ _ _ _ _ _ c.as_slice.ensures c.in_ok-graphs.ensures) c.in_ok-add_starts.ensures.steps)))
 
 pub invariant_of-result : goal.invariant_of-result
 invariant_of-result c = (
@@ -30,7 +30,7 @@ invariant_of-result c = (
         ends = c.args.ends;
       })
       c.all_graphs.new.steps c.add_starts.new.steps c.in_ok-ways.ways.items c.len.result
-      (draft_by c.args.forms.now c.args.ends _ _ _ _ _ _ c.as_slice.ensures c.in_ok-graphs.ensures) c.in_ok-add_starts.ensures c.len.ensures.len c.in_ok-ways.ensures.long
+      (draft_by c.args.forms.now c.args.ends _ _ _ _ _ _ c.as_slice.ensures c.in_ok-graphs.ensures) c.in_ok-add_starts.ensures.steps c.in_ok-add_starts.ensures.listed c.len.ensures.len c.in_ok-ways.ensures.long
       (subst (λ (l : List Step). (j : ℕ) → j < c.len.result → list_at (lists c.in_ok-ways.ways.items) j ≡ into j l) c.as_slice-2.ensures c.in_ok-ways.ensures.ways)
       (c.in_ok-sources.ensures.sources ∙ ap (λ (l : List (SmallVec Way)). map (λ (ws : List Way). map (λ (w : Way). w.from) ws) (lists l)) c.as_slice-3.ensures.value)
       (c.in_ok-sources.ensures.labels ∙ ap (λ (l : List (SmallVec Way)). map (λ (ws : List Way). map (λ (w : Way). w.kind) ws) (lists l)) c.as_slice-3.ensures.value)
@@ -51,7 +51,7 @@ returns c = graph_whole c.args.forms.now c.args.ends
       ends = c.args.ends;
     })
     c.all_graphs.new.steps c.add_starts.new.steps c.in_ok-ways.ways.items c.len.result
-    (draft_by c.args.forms.now c.args.ends _ _ _ _ _ _ c.as_slice.ensures c.in_ok-graphs.ensures) c.in_ok-add_starts.ensures c.len.ensures.len c.in_ok-ways.ensures.long
+    (draft_by c.args.forms.now c.args.ends _ _ _ _ _ _ c.as_slice.ensures c.in_ok-graphs.ensures) c.in_ok-add_starts.ensures.steps c.in_ok-add_starts.ensures.listed c.len.ensures.len c.in_ok-ways.ensures.long
     (subst (λ (l : List Step). (j : ℕ) → j < c.len.result → list_at (lists c.in_ok-ways.ways.items) j ≡ into j l) c.as_slice-2.ensures c.in_ok-ways.ensures.ways)
     (c.in_ok-sources.ensures.sources ∙ ap (λ (l : List (SmallVec Way)). map (λ (ws : List Way). map (λ (w : Way). w.from) ws) (lists l)) c.as_slice-3.ensures.value)
     (c.in_ok-sources.ensures.labels ∙ ap (λ (l : List (SmallVec Way)). map (λ (ws : List Way). map (λ (w : Way). w.kind) ws) (lists l)) c.as_slice-3.ensures.value)

@@ -3,6 +3,7 @@ use Rattle.flow_rows.specs.declared.edge.Edge.{Edge}
 use Rattle.point_graph.specs.Building.{Joins}
 use Rattle.point_graph.proofs.Steps.{no_edge}
 use Rattle.point_graph.proofs.Entering.{enters_both, enters_as, joins_more, more_step}
+use Rattle.point_graph.proofs.Ordering.{ends_come, edge_continues}
 use Rattle.point_graph.proofs.homes.enter_edges.Goals as goal
 
 pub loop-edge-preserved : goal.loop-edge-preserved
@@ -32,6 +33,15 @@ loop-edge-preserved c =
           c.loop-edge-test.true
           (λ j p h. c.in_ok-to.ensures.enters.keeps j p (c.in_ok-from.ensures.enters.keeps j p h))
           c.loop-edge.invariant.steps
+          (record { from = c.in_ok-to.ensures.enters.keeps _ _ c.in_ok-from.ensures.at; to = c.in_ok-to.ensures.at; kind = refl })
+          c.in_ok-push.ensures.ok;
+      comes = ends_come edges i c.args.numbering.now.points.keys c.loop-edge.numbering.points.keys c.enter.new.numbering.points.keys
+          c.enter-in-loop-edge.new.numbering.points.keys c.args.list.now c.loop-edge.list c.enter.new.list c.enter-in-loop-edge.new.list
+          c.loop-edge-test.true c.loop-edge.invariant.comes c.in_ok-from.ensures.comes c.in_ok-to.ensures.comes;
+      listed = edge_continues c.loop-edge.numbering.points.keys c.enter-in-loop-edge.new.numbering.points.keys edges i
+          c.args.steps.now c.loop-edge.steps c.push.new.self (record { from = c.in_ok-from.from; to = c.in_ok-to.to; kind = e.kind })
+          c.loop-edge-test.true (λ j p h. c.in_ok-to.ensures.enters.keeps j p (c.in_ok-from.ensures.enters.keeps j p h))
+          c.loop-edge.invariant.listed
           (record { from = c.in_ok-to.ensures.enters.keeps _ _ c.in_ok-from.ensures.at; to = c.in_ok-to.ensures.at; kind = refl })
           c.in_ok-push.ensures.ok;
     }

@@ -1,11 +1,13 @@
-use Rattle.std.proofs.Common.{◌≡◌, List, Some, subst, ap, ◌∙◌}
+use Rattle.std.proofs.Common.{◌≡◌, List, [], ◌∷◌, Some, subst, ap, ◌∙◌}
 use Rattle.py_base.specs.declared.ids.GraphId.{GraphId}
 use Rattle.py_base.specs.declared.ids.PointId.{PointId}
 use Rattle.flow_rows.specs.declared.edge.Edge.{Edge}
 use Rattle.flow_rows.specs.declared.point.Point.{Point}
 use Rattle.flow_rows.specs.Points.{start}
 use Rattle.flow_rows.specs.Flow.{Has, end_point}
-use Rattle.point_graph.specs.Building.{Enters, Joins, AreMore}
+use Rattle.std.specs.List.{flat_map}
+use Rattle.flow_rows.specs.Edges.{both_ends}
+use Rattle.point_graph.specs.Building.{Enters, Joins, AreMore, Comes, Continues}
 use Rattle.point_graph.proofs.Drafts.{graph_made}
 use Rattle.point_graph.proofs.members.add_graph.Goals as goal
 
@@ -35,3 +37,9 @@ returns c =
     (c.in_ok-end.ensures.at ∙ ap Some c.end_of_graph-last.ensures)
     (subst (λ (l : List Edge). Enters graph (Joins l) points_2 points_3 homes_2 homes_3 list_2 list_3) c.as_slice.ensures c.in_ok-enter_edges.ensures.enters)
     (subst (λ (l : List Edge). AreMore points_3 (Has l) c.args.steps.now c.enter_edges.new.steps) c.as_slice.ensures c.in_ok-enter_edges.ensures.steps)
+    c.in_ok-edges.ensures.list
+    (subst (λ (l : List PointId). Comes (start c.args.root ∷ []) points points_1 l list_1) c.new-points.ensures
+    (subst (λ (s : Point). Comes (s ∷ []) points points_1 c.new-points.result list_1) c.start.ensures c.in_ok-_start.ensures.comes))
+    (subst (λ (s : Point). Comes (s ∷ []) points_1 points_2 list_1 list_2) c.end_of_graph-last.ensures c.in_ok-end.ensures.comes)
+    (subst (λ (l : List Edge). Comes (flat_map both_ends l) points_2 points_3 list_2 list_3) c.as_slice.ensures c.in_ok-enter_edges.ensures.comes)
+    (subst (λ (l : List Edge). Continues points_3 l c.args.steps.now c.enter_edges.new.steps) c.as_slice.ensures c.in_ok-enter_edges.ensures.listed)
