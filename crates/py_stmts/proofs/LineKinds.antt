@@ -11,6 +11,7 @@ use Rattle.py_grammar.specs.Meaning.{has_word, kind_for, tree_of_reading}
 use Rattle.py_grammar.specs.Reading.{Reading, opened, joined}
 use Rattle.py_grammar.proofs.Finite.{every, all_forms, each_form}
 use Rattle.py_modules.specs.Modules.{is_block, is_compound, is_over_lines, IsLine}
+use Rattle.py_stmts.specs.Laws.{is_fault}
 use Rattle.py_stmts.specs.Line.{IsLineTree, by_keyword, plainly}
 
 abbrev pub stands_alone : NodeKind → Bool
@@ -47,6 +48,17 @@ not-over k ts h = h
 line_of : (t : SyntaxTree) → stands_alone (kind_of t) ≡ true → IsLine t
 line_of (node k at said ts) h = let (a, b) = and_parts (not (is_block k)) (not (is_compound k)) h in (negated (is_block k) a, not-over k ts (negated (is_compound k) b))
 
+alone-line : (tokens : List Token) (t : SyntaxTree) → IsLineTree tokens t → stands_alone (kind_of t) ≡ true
+alone-line tokens t (by_keyword h) = ap (λ (u : SyntaxTree). stands_alone (kind_of u)) (sym h.tree) ∙ of_reading h.reading
+alone-line tokens t (plainly none h) = ap (λ (u : SyntaxTree). stands_alone (kind_of u)) (sym h.tree) ∙ of_reading h.reading
+
+alone-no-fault : (k : NodeKind) → stands_alone k ≡ true → is_fault k ≡ false
+alone-no-fault kinds.Fault h = cc
+alone-no-fault k h = refl
+
+-- a line that is read is no error line
+pub no-fault-kind : (tokens : List Token) (t : SyntaxTree) → IsLineTree tokens t → is_fault (kind_of t) ≡ false
+no-fault-kind tokens t h = alone-no-fault (kind_of t) (alone-line tokens t h)
+
 pub IsLine-of : (tokens : List Token) (t : SyntaxTree) → IsLineTree tokens t → IsLine t
-IsLine-of tokens t (by_keyword h) = line_of t (ap (λ (u : SyntaxTree). stands_alone (kind_of u)) (sym h.tree) ∙ of_reading h.reading)
-IsLine-of tokens t (plainly none h) = line_of t (ap (λ (u : SyntaxTree). stands_alone (kind_of u)) (sym h.tree) ∙ of_reading h.reading)
+IsLine-of tokens t h = line_of t (alone-line tokens t h)
