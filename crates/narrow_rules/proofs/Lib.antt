@@ -1,0 +1,10 @@
+pub mod KeptLemmas
+pub mod LevelLemmas
+pub mod ListLemmas
+pub mod MemberLemmas
+pub mod Named
+pub mod OutOf
+pub mod OutOfTest
+pub mod RowLemmas
+pub mod StayLemmas
+pub mod TestSize

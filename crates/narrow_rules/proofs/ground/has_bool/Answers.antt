@@ -1,0 +1,10 @@
+use Rattle.std.proofs.Common.{◌≡◌, sym, ap, ◌∙◌}
+use Rattle.std.specs.Prelude.{is_some}
+use Rattle.class_rows.specs.Rows.{member_of}
+use Rattle.narrow_rules.specs.Ground.{has_name}
+use Rattle.narrow_rules.proofs.Named.{bool_named}
+use Rattle.narrow_rules.proofs.ground.has_bool.Goals as goal
+
+pub returns : goal.returns
+unfolding has_name
+returns c = c.is_some.ensures ∙ ap is_some (c.member.ensures ∙ ap (member_of c.args.classes.now c.args.class) (sym bool_named))
