@@ -1,7 +1,7 @@
 use Rattle.std.proofs.Common.{◌≡◌, sym, subst}
 use Rattle.std.specs.Prelude.{IfOk}
-use Rattle.serial_session.proofs.Messages.{message_of-text, read_message-no_text}
-use Rattle.serial_session.proofs.message.read_bytes.Goals as goal
+use Rattle.wire_json.proofs.Messages.{message_of-text, read_message-no_text}
+use Rattle.wire_json.proofs.read.read_bytes.Goals as goal
 
 pub returns-in-Ok : goal.returns-in-Ok
 returns-in-Ok c =

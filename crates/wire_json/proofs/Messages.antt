@@ -6,8 +6,8 @@ use Rattle.std.specs.Prelude.{nat_lt}
 use Rattle.std.specs.Str.{IsUtf8, is_utf8}
 use Rattle.serde_json.specs.Read.{read}
 use Rattle.edge_io.specs.Line.{line_limit}
-use Rattle.serial_session.specs.declared.message.LineRefusal.TheVariants.{BadJson}
-use Rattle.serial_session.specs.Message.{read_message, message_of}
+use Rattle.wire_json.specs.declared.message.LineRefusal.TheVariants.{BadJson}
+use Rattle.wire_json.specs.Message.{read_message, message_of}
 
 short : (line : List ℕ) → length line ≤ line_limit → nat_lt line_limit (length line) ≡ false
 short line within = le-ltb line_limit (length line) within

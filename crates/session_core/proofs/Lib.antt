@@ -1,0 +1,4 @@
+pub mod Lists
+pub mod OpenJobs
+pub mod Waiting
+pub mod Steps
