@@ -97,8 +97,9 @@ pub record IsAtRest (s : State) : Type 0 where
   pub answered : s.requests ≡ []
   pub published : list_all (λ doc. doc.published) (values_of s.docs) ≡ true
 
--- What a list and a hover of a text are is a parameter, as two relations. Both stand only in what is claimed of a
--- reply, never in what is assumed.
+-- What a list and a hover of a text are is a parameter, as two relations. In a run both stand only in what is claimed of a
+-- reply, so relations that hold of nothing make no reply legal. What is assumed of them is that a text has one list and a place
+-- of it one hover, and of a finished job that it holds them; an analyser owes the one, and who makes the job the other.
 module _ (HasList : List ℕ → List Diag → Type 0) (HasHover : List ℕ → Place → Option (List ℕ) → Type 0) where
   -- the reply that answers the question with what the file's text has
   abbrev pub IsReply : Doc → ℕ → Question → Out → Type 0

@@ -32,4 +32,10 @@ pub trait Analyser: Drop {
     /// Whether two documents have the same text. Takes no memory.
     fn same(&self, one: &Self::Doc, other: &Self::Doc) -> bool
         ensures { IsTrue result ↔ (text_of one.now ≡ text_of other.now) };
+
+    /// A text has one list.
+    ghost one_list: { (text : List ℕ) (one other : List Diag) → has_list text one → has_list text other → one ≡ other };
+
+    /// A place of a text has one hover.
+    ghost one_hover: { (text : List ℕ) (place : Place) (one other : Option (List ℕ)) → has_hover text place one → has_hover text place other → one ≡ other };
 }
