@@ -269,3 +269,8 @@ reach_all weight chain row before after none same h =
     let here : Reaches weight (chain_rank weight row) before after = subst (λ c. Reaches weight (chain_rank weight c) before after) same h in
     let start : Reaches weight (chain_rank weight row) [] after = subst (λ ps. Reaches weight (chain_rank weight row) ps after) none here in
     start (chain_rank weight row) tt (omega arith)
+
+-- what is added to nothing is all
+pub says_all : {S : Type 0} (rule : S → Atom → Outcome Key Atom) (before after : List (Part (List S))) (what : Assignment Key Atom → Told) → before ≡ [] → Extends rule before what after
+    → (s : Assignment Key Atom) → SaysSame (parts_told (chain_rule rule) after s) (what s)
+says_all rule before after what none h = subst (λ ps. Extends rule ps what after) none h

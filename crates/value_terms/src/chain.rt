@@ -153,6 +153,20 @@ fn joined<T: Copy + Drop>(alloc: Global, first: &[T], second: &[T]) -> Result<Li
     Ok(List::from_vec(all))
 }
 
+/// The parts of a rule that goes on by a chain from each member that parts give.
+pub fn go_on<S: Steps>(
+    alloc: Global,
+    steps: &S,
+    parts: &[Part<List<S::Step>>],
+    chain: &[S::Step],
+) -> Result<List<Part<List<S::Step>>>, NoMemory>
+    ensures { IfOk result (λ all. (s : Assignment Key Atom) → SaysSame (parts_told (chain_rule (S.rule steps.now)) all s) (told_of_each (parts_told (chain_rule (S.rule steps.now)) parts.now s) (λ a. told (chain_rule (S.rule steps.now) chain.now a) s))) }
+{
+    let mut out = List::new(alloc);
+    push_parts(alloc, steps, parts, chain, &mut out)?;
+    Ok(out)
+}
+
 impl<'a, S: Steps> Rows for Chains<'a, S> {
     ghost use Rattle.value_terms.specs.Chain.{chain_rule, chain_rank};
 

@@ -19,7 +19,7 @@ mod part;
 mod rows;
 
 pub use ask::Ask;
-pub use chain::{Chains, Steps};
+pub use chain::{Chains, Steps, go_on};
 pub use evaluation::{Found, evaluate};
 pub use part::Part;
 pub use rows::Rows;

@@ -1,0 +1,5 @@
+pub mod OutOf
+pub mod RuleLemmas
+pub mod SeenLemmas
+pub mod CallLemmas
+pub mod WidenLemmas
