@@ -114,7 +114,7 @@ impl ClassRows {
     }
 
     /// Whether the class itself has an Unknown base.
-    fn has_unknown_base(&self, class: ClassId) -> bool
+    pub fn has_unknown_base(&self, class: ClassId) -> bool
         ensures { result ≡ (row_at self.now class).unknown_base }
     {
         match self.row(class) {
