@@ -1,5 +1,5 @@
 -- The open jobs, looked through one request after another.
-use Rattle.std.proofs.Common.{slice_get, cond, ◌∙◌, ◌≡◌, ◌≢◌, ◌<◌, ◌+◌, ℕ, length, get_or, drop, Bool, true, false, Option, Some, None, List, [], ◌∷◌, ◌++◌, refl, ap, option_map, filter_map}
+use Rattle.std.proofs.Common.{slice_get, cond, ◌∙◌, ◌≡◌, ◌≢◌, ◌<◌, ◌+◌, ℕ, length, get_or, drop, Bool, true, false, Option, Some, None, List, ◌∷◌, ◌++◌, refl, ap, option_map, filter_map}
 use Rattle.std.proofs.lemmas.Bool.{eq-eqb, ne_eqb}
 use Rattle.std.specs.List.{find, cons_option}
 use Rattle.session_core.specs.declared.request.Request.{Request}

@@ -1,5 +1,5 @@
 -- What the session's calls do are steps of the machine.
-use Rattle.std.proofs.Common.{◌≡◌, ◌∙◌, ◌⊎◌, inl, inr, ℕ, zero, suc, ◌+◌, ◌<◌, Bool, true, false, cond, Option, Some, None, Result, List, [], ◌∷◌, ◌++◌, length, get_or, refl, ap, sym, subst, arith, option_map, filter_map, Contains}
+use Rattle.std.proofs.Common.{◌≡◌, ◌⊎◌, inl, inr, ℕ, suc, Bool, true, false, cond, Option, Some, None, List, [], ◌∷◌, ◌++◌, refl, ap, sym, subst, arith, option_map, filter_map, Contains}
 use Rattle.std.proofs.lemmas.List.{append-nil}
 use Rattle.std.specs.List.{find, cons_option}
 use Rattle.py_base.specs.declared.diag.Diag.{Diag}
@@ -18,7 +18,7 @@ use Rattle.session_core.specs.declared.job.Outcome.TheVariants.{Listed, Hovered,
 use Rattle.session_core.specs.Doc.{Doc, Docs}
 use Rattle.session_core.specs.Finished.{Finished, IsOutcomeOf}
 use Rattle.session_core.specs.Machine.{State, doc_of, take_line}
-use Rattle.session_core.specs.Journal.{Step, Run, Follows}
+use Rattle.session_core.specs.Journal.{Step, Run}
 use Rattle.session_core.specs.Jobs.{OpenJob, asked_work, asked_job, publishing_job, request_job, list_job, open_jobs_of, open_job, has_number, IsDone, entry_of, IsOutOf, close_work}
 use Rattle.session_core.specs.Calls.{Serving, GoesOn}
 

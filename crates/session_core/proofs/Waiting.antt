@@ -1,10 +1,9 @@
 -- The jobs of the versions that wait, one file after another.
-use Rattle.std.proofs.Common.{◌≡◌, ◌∙◌, ℕ, ◌+◌, Bool, true, false, cond, Option, Some, None, List, [], ◌∷◌, ◌++◌, map, filter, filter_map, option_map, slice_get, drop, refl, ap, sym, append_assoc}
+use Rattle.std.proofs.Common.{◌≡◌, ◌∙◌, ℕ, ◌+◌, Bool, true, false, cond, Some, None, List, [], ◌∷◌, ◌++◌, map, filter, filter_map, option_map, slice_get, drop, refl, ap, sym, append_assoc}
 use Rattle.std.proofs.lemmas.List.{map-append}
 use Rattle.std.specs.List.{cons_option}
-use Rattle.session_core.specs.declared.job.Job.{Job}
 use Rattle.session_core.specs.Doc.{Doc, Docs}
-use Rattle.session_core.specs.Jobs.{OpenJob, Handed, publishing_job, handed_job, list_job, is_waiting, waits, waiting_lists}
+use Rattle.session_core.specs.Jobs.{Handed, publishing_job, handed_job, list_job, is_waiting, waits, waiting_lists}
 use Rattle.session_core.proofs.Lists.{drops_at}
 
 -- the job of a version comes before those of the files behind it, where it waits

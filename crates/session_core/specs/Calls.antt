@@ -9,7 +9,7 @@ use Rattle.session_core.specs.declared.entry.Entry.{Entry}
 use Rattle.session_core.specs.declared.entry.Entry.TheVariants.{Line}
 use Rattle.session_core.specs.declared.turn.Turn.{Turn}
 use Rattle.session_core.specs.Finished.{Finished}
-use Rattle.session_core.specs.Machine.{State, Effect, beginning, take_line}
+use Rattle.session_core.specs.Machine.{State, beginning, take_line}
 use Rattle.session_core.specs.Journal.{Run}
 use Rattle.session_core.specs.Jobs.{OpenJob, Handed, open_job, waiting_requests, waiting_lists, IsDone, IsOutOf, entry_of, close_work}
 

@@ -1,5 +1,5 @@
 -- The jobs of a session: what is open, as work for others, and what comes of a finished job.
-use Rattle.std.specs.Prelude.{◌≡◌, ℕ, List, [], ◌∷◌, ◌++◌, Bool, true, false, ◌||◌, ◌==◌, nat_lt, if◌then◌else◌, Option, Some, None, option_map, map, filter, filter_map}
+use Rattle.std.specs.Prelude.{◌≡◌, ℕ, List, ◌++◌, Bool, true, false, ◌||◌, ◌==◌, nat_lt, if◌then◌else◌, Option, Some, None, option_map, map, filter, filter_map}
 use Rattle.std.specs.List.{find, list_any}
 use Rattle.wire_json.specs.declared.reply.Out.{Out}
 use Rattle.wire_json.specs.declared.reply.Out.TheVariants.{Listed as ListedOut, Hovered as HoveredOut, Checked as CheckedOut, Unanswered, Unlisted}

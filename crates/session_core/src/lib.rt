@@ -16,6 +16,7 @@ mod files;
 mod fit;
 mod job;
 mod jobs;
+pub mod laws;
 mod open_file;
 mod refusals;
 mod request;

@@ -1,6 +1,6 @@
-use Rattle.std.proofs.Common.{◌≡◌, ◌∙◌, ◌++◌, List, ap, sym, subst, Some, None, option_map, map, true, false, slice_get}
-use Rattle.session_core.specs.Jobs.{Handed, handed_view, handed_job, list_job, is_waiting}
-use Rattle.session_core.specs.Doc.{Doc, Docs}
+use Rattle.std.proofs.Common.{◌≡◌, ◌∙◌, ◌++◌, List, ap, sym, subst, Some, option_map, map, slice_get}
+use Rattle.session_core.specs.Jobs.{Handed, handed_view}
+use Rattle.session_core.specs.Doc.{Docs}
 use Rattle.session_core.proofs.Lists.{set_value_at_same}
 use Rattle.session_core.proofs.Waiting.{past_other, past_published, past_waiting}
 use Rattle.session_core.proofs.jobs.push_list_jobs.Goals.{then-is_waiting+in_ok-job+in-Some+in_ok-push, then-is_waiting+in_ok-job+in_default, else-is_waiting}
