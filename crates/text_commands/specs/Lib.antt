@@ -1,0 +1,6 @@
+pub mod Whole
+pub mod CheckText
+pub mod Checked
+pub mod Sample
+pub mod Sampled
+pub mod Parts
