@@ -1,22 +1,23 @@
 -- What leads from one point to another is an edge.
-use Rattle.std.proofs.Common.{◌≡◌, ℕ, zero, suc, ◌<◌, List, [], ◌∷◌, Option, None, Some, refl, ap, sym, ◌∙◌, subst, inl, inr, length, slice_get, map}
+use Rattle.std.proofs.Common.{◌≡◌, ℕ, zero, suc, ◌<◌, true, is_some, List, [], ◌∷◌, Option, None, Some, refl, ap, sym, ◌∙◌, subst, inl, inr, length, slice_get, get_or, map}
 use Rattle.std.proofs.lemmas.Option.{slice_get_within, slice_get-get_or}
 use Rattle.py_base.specs.declared.ids.NodeId.{NodeId}
 use Rattle.py_base.specs.declared.ids.PointId.{PointId}
+use Rattle.py_base.specs.declared.ids.GraphId.{GraphId}
 use Rattle.flow_rows.specs.declared.point.Point.{Point}
 use Rattle.flow_rows.specs.declared.edge.Edge.{Edge}
 use Rattle.flow_rows.specs.declared.edge.EdgeKind.{EdgeKind}
 use Rattle.flow_rows.specs.declared.edge.EdgeKind.TheVariants as kinds
 use Rattle.flow_rows.specs.declared.form.Form.{Form}
 use Rattle.flow_rows.specs.declared.ends.Ends.{Ends}
-use Rattle.flow_rows.specs.Points.{edge}
+use Rattle.flow_rows.specs.Points.{edge, start}
 use Rattle.flow_rows.specs.Flow.{Has, HasRun, run_by, run_at, HasGraph, IsEdge, IsPointOf}
 use Rattle.point_graph.specs.declared.incoming.Way.{Way}
 use Rattle.point_graph.specs.declared.members.Members.{Members}
 use Rattle.point_graph.specs.Numbers.{IsNumber, list_at}
-use Rattle.point_graph.specs.Members.{IsGraphAt}
+use Rattle.point_graph.specs.Members.{IsGraphAt, IsHome}
 use Rattle.point_graph.specs.Graph.{Numbered, AreNumbered, listed_or}
-use Rattle.point_graph.specs.Laws.{Leads, AreTogether}
+use Rattle.point_graph.specs.Laws.{Leads, AreTogether, AreApart}
 use Rattle.point_graph.proofs.Keys.{has_at}
 use Rattle.point_graph.proofs.Drafts.{has_not}
 use Rattle.point_graph.proofs.Steps.{no_point}
@@ -114,3 +115,50 @@ lead_own law forms t g n from to kind lead =
 pub end_there : (forms : List Form) (t : List Ends) (g : Numbered) → AreNumbered forms t g → (n : ℕ) (m : Members) → slice_get g.graphs n ≡ Some (Some m) → Has m.points m.end
 end_there forms t g n k m at =
     let found = (n.graphs.1 k (Some m) at).1 in (found.exact m.end).1 (_, found.end, inr (inl refl))
+
+-- ---- where no point is in two graphs
+
+has_graph : (forms : List Form) (n : NodeId) → is_some (run_at forms n) ≡ true → HasGraph forms n
+has_graph forms n h = go (run_at forms n) h
+  where
+    go : (run : Option (List NodeId)) → is_some run ≡ true → HasRun run
+    go None e = cc e
+    go (Some run) e = tt
+
+-- the graph of a number, its node, and the point of one of its numbers
+point_in : (forms : List Form) (t : List Ends) (g : Numbered) → AreNumbered forms t g → (n : ℕ) (m : Members) (id : PointId) → slice_get g.graphs n ≡ Some (Some m) → Has m.points id
+    → HasGraph forms (record { 0 = n }) × ((p : Point) × IsNumber g.points id p × IsPointOf forms t (record { 0 = n }) p)
+point_in forms t g are n m id at has =
+    let found = are.graphs.1 n (Some m) at in (has_graph forms (record { 0 = n }) found.0, (found.1.exact id).0 has)
+
+abbrev no_graph : GraphId
+no_graph = record { 0 = 0 }
+
+pub alone_home : (forms : List Form) (t : List Ends) (g : Numbered) → AreNumbered forms t g → AreApart forms t → (n : ℕ) (m : Members) (id : PointId)
+    → slice_get g.graphs n ≡ Some (Some m) → Has m.points id → slice_get g.homes id.0 ≡ Some (record { 0 = n })
+alone_home forms t g are apart n m id at has =
+    let one = point_in forms t g are n m id at has in
+    let lt : id.0 < length g.homes = subst (λ (k : ℕ). id.0 < k) (sym are.homes.0) (slice_get_within g.points id.0 one.1.0 one.1.1) in
+    let home : slice_get g.homes id.0 ≡ Some (get_or g.homes id.0 no_graph) = slice_get-get_or g.homes id.0 no_graph lt in
+    let is : IsHome g.graphs (record { 0 = id.0 }) (get_or g.homes id.0 no_graph) = are.homes.1 id.0 (get_or g.homes id.0 no_graph) home in
+    let k : ℕ = (get_or g.homes id.0 no_graph).0 in
+    let other = point_in forms t g are k is.members id is.at is.has in
+    let same : other.1.0 ≡ one.1.0 = some_same (sym other.1.1 ∙ one.1.1) in
+    let of : IsPointOf forms t (record { 0 = k }) one.1.0 = subst (λ (p : Point). IsPointOf forms t (record { 0 = k }) p) same other.1.2 in
+    let nodes : ◌≡◌ {A = NodeId} (record { 0 = k }) (record { 0 = n }) = apart (record { 0 = k }) (record { 0 = n }) one.1.0 other.0 one.0 of one.1.2 in
+    home ∙ ap (λ (x : NodeId). Some (record { 0 = x.0 })) nodes
+
+pub edge_homes : (forms : List Form) (t : List Ends) (g : Numbered) → AreNumbered forms t g → AreApart forms t → (from to : PointId) (kind : EdgeKind)
+    → Leads g from to kind → (kind ≡ kinds.Start → ⊥) → slice_get g.homes from.0 ≡ slice_get g.homes to.0
+edge_homes forms t g are apart from to kind lead away =
+    let (n, m, at, one, other) = lead_together forms t g are from to kind lead away in
+    alone_home forms t g are apart n m from at one ∙ sym (alone_home forms t g are apart n m to at other)
+
+pub start_home : (forms : List Form) (t : List Ends) (g : Numbered) → AreNumbered forms t g → AreApart forms t → (n : NodeId) (id : PointId)
+    → HasGraph forms n → IsNumber g.points id (start n) → slice_get g.homes id.0 ≡ Some (record { 0 = n.0 })
+start_home forms t g are apart n id has number =
+    let lt : n.0 < length g.graphs = subst (λ (k : ℕ). n.0 < k) (sym are.graphs.0) (root_within forms n has) in
+    let there = slice_get-get_or g.graphs n.0 None lt in
+    let at = are.graphs.1 n.0 _ there in
+    let a = in_members forms t g n _ id (start n) has at number (inl refl) in
+    alone_home forms t g are apart n.0 a.0 id (there ∙ ap Some a.1) a.2

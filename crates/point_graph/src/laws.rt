@@ -1,5 +1,5 @@
 //! What follows of the graphs of a tree, by numbers. The functions do nothing, and their contracts are laws.
-ghost use Rattle.point_graph.specs.Laws.{ListsAreExact, EdgesJoinPoints, LeadsAreEdges, EdgesStayInAGraph, ExitsLeaveOwnPoints, EndsArePoints};
+ghost use Rattle.point_graph.specs.Laws.{ListsAreExact, EdgesJoinPoints, LeadsAreEdges, EdgesStayInAGraph, ExitsLeaveOwnPoints, EndsArePoints, PointsHaveOneGraph};
 
 /// The lists of points and of edges have just what the flow says (`IsPoint`, `IsEdge`).
 pub fn lists_are_exact()
@@ -31,4 +31,10 @@ pub fn exits_leave_own_points()
 /// The end of a graph is one of its points.
 pub fn ends_are_points()
     ensures { EndsArePoints }
+{}
+
+/// Where no point is in two graphs, the graph of a point is the one that has it, so both ends of an edge that leads to
+/// no start have one, and a start has that of its own node.
+pub fn points_have_one_graph()
+    ensures { PointsHaveOneGraph }
 {}
