@@ -1,5 +1,5 @@
 -- What a test keeps, opened by one level, and what several tests keep.
-use Rattle.std.proofs.Common.{◌≡◌, ℕ, ◌+◌, ◌<◌, Bool, true, false, not, Result, List, [], ◌∷◌, ◌++◌, ◌≤◌, length, get_or, drop, map, refl, sym, ap, subst, ◌∙◌}
+use Rattle.std.proofs.Common.{◌≡◌, ℕ, ◌+◌, ◌<◌, Bool, true, false, not, Result, List, [], ◌∷◌, ◌≤◌, length, get_or, drop, map, refl, sym, ap, subst, ◌∙◌}
 use Rattle.std.proofs.lemmas.List.{drop_more, drop_all}
 use Rattle.type_terms.specs.declared.atom.Atom.{Atom, out-Atom}
 use Rattle.type_terms.specs.declared.narrowing.Test.{Test, fold-Test, fold-roll-Test, map-Test, out-Test, roll-out-Test}

@@ -20,10 +20,10 @@ use Rattle.class_rows.specs.Rows.{ClassRow}
 use Rattle.narrow_rules.specs.declared.sides.Kept.{Kept}
 use Rattle.narrow_rules.specs.declared.sides.Kept.TheVariants.{Itself, Nothing, Others}
 use Rattle.narrow_rules.specs.Ground.{is_class, set_members}
-use Rattle.narrow_rules.specs.Keep.{members, both, of_kept, of_each, any_true, all_false, several, as_set, level_set, set_of, level_kept, kept, by_table, keep}
+use Rattle.narrow_rules.specs.Keep.{members, both, of_kept, any_true, all_false, several, as_set, level_set, set_of, level_kept, kept, by_table, keep}
 use Rattle.narrow_rules.specs.Laws.{HaveSame}
 use Rattle.narrow_rules.proofs.KeptLemmas.{kept_level, by_swapped, by_either}
-use Rattle.narrow_rules.proofs.MemberLemmas.{same_by, same_then, same_twice, both_same, of_kept_same}
+use Rattle.narrow_rules.proofs.MemberLemmas.{same_twice, both_same, of_kept_same}
 use Rattle.narrow_rules.proofs.OutOf.{out-Lit}
 
 -- what holds of each of some atoms

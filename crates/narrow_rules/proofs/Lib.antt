@@ -8,3 +8,4 @@ pub mod OutOfTest
 pub mod RowLemmas
 pub mod StayLemmas
 pub mod TestSize
+pub mod WithinLemmas

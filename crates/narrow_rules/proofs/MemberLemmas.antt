@@ -1,5 +1,5 @@
 -- The members of lists, of what is kept and of types.
-use Rattle.std.proofs.Common.{◌≡◌, List, [], ◌∷◌, ◌++◌, true, inl, inr, refl, sym, ap, subst, ◌∙◌, ◌⊎◌, Bool, arith}
+use Rattle.std.proofs.Common.{◌≡◌, List, [], ◌∷◌, ◌++◌, inl, inr, refl, sym, subst, ◌∙◌, ◌⊎◌, arith}
 use Rattle.std.specs.Bool.{Decides}
 use Rattle.std.specs.List.{Contains, flat_map}
 use Rattle.std.proofs.lemmas.List.{append-nil}
@@ -9,8 +9,8 @@ use Rattle.type_terms.specs.declared.atom.Atom.{Atom}
 use Rattle.type_terms.specs.Types.{has, type_of}
 use Rattle.narrow_rules.specs.declared.sides.Kept.{Kept}
 use Rattle.narrow_rules.specs.declared.sides.Kept.TheVariants.{Itself, Nothing, Others}
-use Rattle.narrow_rules.specs.Keep.{members, both, of_kept, of_each}
-use Rattle.narrow_rules.specs.Laws.{IsInside, HaveSame}
+use Rattle.narrow_rules.specs.Keep.{members, both, of_kept}
+use Rattle.narrow_rules.specs.Laws.{HaveSame}
 
 module _ {X : Type 0} where
   pub none_in : (x : X) → Contains [] x → ⊥

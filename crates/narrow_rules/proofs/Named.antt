@@ -2,7 +2,6 @@
 use Rattle.std.proofs.Common.{◌≡◌, refl}
 use Rattle.std.specs.Prelude.{codes}
 use Rattle.py_base.specs.LanguageNames.{language_names}
-use Rattle.py_base.specs.declared.ids.NameId.{NameId}
 use Rattle.narrow_rules.specs.Ground.{named}
 
 pub bool_named : named (codes "__bool__") ≡ (record { 0 = 120 })

@@ -1,5 +1,5 @@
 -- What stands for a class has a member, and what that says of the sides of rows.
-use Rattle.std.proofs.Common.{◌≡◌, Bool, true, false, ◌||◌, not, List, [], ◌∷◌, refl, sym, ap, ◌∙◌}
+use Rattle.std.proofs.Common.{◌≡◌, Bool, true, false, ◌||◌, List, [], ◌∷◌, refl, sym, ap, ◌∙◌}
 use Rattle.std.specs.Prelude.{if◌then◌else◌}
 use Rattle.std.proofs.lemmas.Bool.{false≢true}
 use Rattle.py_base.specs.declared.ids.ClassId.{ClassId}
@@ -8,7 +8,6 @@ use Rattle.type_terms.specs.declared.atom.Atom.{Atom}
 use Rattle.type_terms.specs.Facts.{NameTable}
 use Rattle.type_terms.specs.Types.{both_bools, type_of}
 use Rattle.type_terms.specs.Widen.{all_members}
-use Rattle.narrow_rules.specs.declared.sides.Kept.{Kept}
 use Rattle.narrow_rules.specs.declared.sides.Kept.TheVariants.{Others}
 use Rattle.narrow_rules.specs.declared.classes.Standing.{Standing}
 use Rattle.narrow_rules.specs.declared.classes.Standing.TheVariants.{Instances, Class}

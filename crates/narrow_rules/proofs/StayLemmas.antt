@@ -1,19 +1,19 @@
 -- A member is kept as itself on at least one side of each test.
-use Rattle.std.proofs.Common.{◌≡◌, Bool, true, false, not, List, [], ◌∷◌, ◌++◌, map, inl, inr, ◌⊎◌, refl, sym, ap, subst, ◌∙◌}
-use Rattle.std.specs.List.{Contains, flat_map}
+use Rattle.std.proofs.Common.{◌≡◌, Bool, true, false, List, [], ◌∷◌, ◌++◌, map, inl, inr, ◌⊎◌, sym, subst}
+use Rattle.std.specs.List.{Contains}
 use Rattle.std.proofs.lemmas.List.Elements.{Contains-append_left, Contains-append_right}
 use Rattle.type_terms.specs.declared.atom.Atom.{Atom, out-Atom}
 use Rattle.type_terms.specs.declared.atom.Atom.TheOpen.{Atom-F}
-use Rattle.type_terms.specs.declared.narrowing.Test.{Test, map-Test, out-Test, roll-Test, fold-Test, fold-roll-Test, ind-Test}
+use Rattle.type_terms.specs.declared.narrowing.Test.{Test, map-Test, roll-Test, fold-roll-Test, ind-Test}
 use Rattle.type_terms.specs.declared.narrowing.Test.TheOpen.{Test-F}
 use Rattle.type_terms.specs.Facts.{NameTable}
 use Rattle.type_terms.specs.Types.{type_of}
 use Rattle.class_rows.specs.Rows.{ClassRow}
 use Rattle.narrow_rules.specs.declared.sides.Kept.{Kept}
-use Rattle.narrow_rules.specs.declared.sides.Kept.TheVariants.{Itself, Nothing, Others}
-use Rattle.narrow_rules.specs.Keep.{Row, only_true, only_false, on_both, becomes, leaves, side, members, both, of_kept, of_each, any_true, all_false, several, entry_row, entry_keeps, as_set, level_set, set_of, level_kept, step, whole_step, kept, keep}
+use Rattle.narrow_rules.specs.declared.sides.Kept.TheVariants.{Itself, Nothing}
+use Rattle.narrow_rules.specs.Keep.{Row, only_true, only_false, on_both, becomes, leaves, side, members, both, of_kept, any_true, all_false, several, entry_row, entry_keeps, as_set, level_set, set_of, level_kept, step, whole_step, kept, keep}
 use Rattle.narrow_rules.specs.Laws.{HaveSame}
-use Rattle.narrow_rules.proofs.MemberLemmas.{none_in, first_in, flat_in, both_same, of_kept_same}
+use Rattle.narrow_rules.proofs.MemberLemmas.{first_in, flat_in, both_same, of_kept_same}
 
 -- the member is left itself
 abbrev Stays : Kept → Atom → Type 0

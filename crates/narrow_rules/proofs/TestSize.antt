@@ -1,5 +1,5 @@
 -- How large a test is, by which the calls of a test's parts end.
-use Rattle.std.proofs.Common.{◌≡◌, ℕ, zero, suc, ◌+◌, ◌<◌, ◌≤◌, List, [], ◌∷◌, map, length, get_or, refl, sym, ap, subst, ◌∙◌, arith}
+use Rattle.std.proofs.Common.{◌≡◌, ℕ, zero, suc, ◌+◌, ◌<◌, ◌≤◌, List, [], ◌∷◌, map, length, get_or, sym, ap, subst, ◌∙◌, arith}
 use Rattle.type_terms.specs.declared.narrowing.Test.{Test, fold-Test, fold-roll-Test}
 use Rattle.type_terms.specs.declared.narrowing.Test.TheVariants as test
 use Rattle.type_terms.specs.declared.narrowing.Test.TheOpen.{Test-F}

@@ -1,8 +1,8 @@
 -- The classes of members, the instances of a class as members, and which members are under others.
 -- From: the Python typing specification, "Enumerations" (an enum is the set of its members, and bool that of both its literals), "Generics"
 -- (a generic class without arguments has `Any` in each slot) and "Type narrowing".
-use Rattle.std.specs.Prelude.{◌==◌, ◌||◌, ◌&&◌, ℕ, Bool, true, false, not, List, [], ◌∷◌, Option, Some, None, is_some, unwrap_or, bytes_eq, codes, if◌then◌else◌}
-use Rattle.std.specs.List.{list_any, position_from}
+use Rattle.std.specs.Prelude.{◌==◌, ◌||◌, ℕ, Bool, true, false, List, [], ◌∷◌, Option, Some, None, is_some, unwrap_or, bytes_eq, if◌then◌else◌}
+use Rattle.std.specs.List.{position_from}
 use Rattle.std.specs.Ordering.{eq_by_cmp}
 use Rattle.py_base.specs.declared.ids.ClassId.{ClassId}
 use Rattle.py_base.specs.declared.ids.NameId.{NameId}
@@ -19,7 +19,7 @@ use Rattle.type_terms.specs.Facts.{NameTable}
 use Rattle.type_terms.specs.Order.{atom_cmp, literal_class}
 use Rattle.type_terms.specs.Types.{both_bools}
 use Rattle.type_terms.specs.Widen.{all_members}
-use Rattle.class_rows.specs.Rows.{ClassRow, is_sub_of, is_open_of, member_of}
+use Rattle.class_rows.specs.Rows.{ClassRow, is_sub_of, member_of}
 
 abbrev pub is_class : ClassId → Builtin → Bool
 is_class class builtin = class.0 == (id_of builtin).0

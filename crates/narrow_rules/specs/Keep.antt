@@ -1,10 +1,9 @@
 -- What a test keeps of each member of a type: its two sides, row by row.
 -- From: the Python typing specification, "Type narrowing", TypeGuard and TypeIs; the Python 3.12 language reference, 4.1 (truth values) and
 -- 8.6 (patterns). The table is this project's own.
-use Rattle.std.specs.Prelude.{◌==◌, ◌||◌, ◌&&◌, ℕ, zero, pos, ℤ, Bool, true, false, not, List, [], ◌∷◌, ◌++◌, filter, map, Option, Some, None, codes, if◌then◌else◌}
+use Rattle.std.specs.Prelude.{◌==◌, ◌||◌, ◌&&◌, zero, pos, ℤ, Bool, true, false, not, List, [], ◌∷◌, ◌++◌, filter, map, Option, Some, None, codes, if◌then◌else◌}
 use Rattle.std.specs.List.{list_any, flat_map}
 use Rattle.py_base.specs.declared.ids.ClassId.{ClassId}
-use Rattle.py_base.specs.Builtins.{id_of}
 use Rattle.py_base.specs.declared.builtin.Builtin.{Builtin}
 use Rattle.py_base.specs.declared.builtin.Builtin.TheVariants as builtin
 use Rattle.type_terms.specs.declared.literal.Literal.{Literal}

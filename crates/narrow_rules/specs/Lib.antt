@@ -1,3 +1,4 @@
 pub mod Ground
 pub mod Keep
 pub mod Laws
+pub mod Patterns

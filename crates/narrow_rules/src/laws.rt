@@ -8,7 +8,7 @@ ghost use Rattle.type_terms.specs.Facts.{NameTable};
 ghost use Rattle.type_terms.specs.Types.{IsType};
 ghost use Rattle.class_rows.specs.Rows.{ClassRow};
 ghost use Rattle.narrow_rules.specs.Keep.{set_of, kept, keep, narrowed};
-ghost use Rattle.narrow_rules.specs.Laws.{IsInside, HaveSame};
+ghost use Rattle.narrow_rules.specs.Laws.{IsInside, HaveSame, HasSets, made_by};
 
 use type_terms::laws::{equal_types_are_equal_lists, type_of_is_exact};
 
@@ -27,6 +27,16 @@ pub fn tests_are_maps()
 /// of `bool` or of an enum with members is the set of its members, and so each of these is kept.
 pub fn no_member_is_lost()
     ensures { (classes : List ClassRow) (names : NameTable) (t : Test) (a : Atom) → set_of names a ≡ [] → Contains (keep classes names t true a ++ keep classes names t false a) a }
+{
+    equal_types_are_equal_lists();
+    type_of_is_exact();
+}
+
+/// What a test keeps of a type stays in each list of atoms that has the type's members, those that the
+/// test puts in place of others, and with an instance of `bool` or of an enum its members.
+pub fn tests_stay_within()
+    ensures { (classes : List ClassRow) (names : NameTable) (t : Test) (positive : Bool) (universe type : List Atom) → HasSets names universe → IsInside (made_by names t) universe → IsInside type universe
+        → IsInside (narrowed classes names t positive type) universe }
 {
     equal_types_are_equal_lists();
     type_of_is_exact();

@@ -1,4 +1,4 @@
-use Rattle.std.proofs.Common.{◌≡◌, sym, ap, ◌∙◌}
+use Rattle.std.proofs.Common.{sym, ap, ◌∙◌}
 use Rattle.class_rows.specs.Rows.{is_sub_of}
 use Rattle.narrow_rules.specs.Ground.{is_below}
 use Rattle.narrow_rules.proofs.ListLemmas.{any_next}
