@@ -3,7 +3,7 @@
 use crate::sources::flow_of;
 use crate::{
     builtins, classes, edges, faults, lines, listing, names, places, references, roles, scopes,
-    symbols, tokens, trees, values,
+    symbols, tokens, trees,
 };
 use py_base::NoMemory;
 use std::alloc::Global;
@@ -31,8 +31,6 @@ pub enum Subject {
     Scopes,
     /// The roles of names, and what stands in the table of each symbol.
     Symbols,
-    /// Where bound values come from.
-    Sources,
     /// The references that nodes stand for.
     Chains,
     /// The nodes that name `cast` of typing.
@@ -74,7 +72,6 @@ pub fn facts(alloc: Global, subject: Subject, source: &str) -> Result<Vec<String
         Subject::Spans => trees::span_facts(alloc, source),
         Subject::Scopes => scopes::facts(alloc, source),
         Subject::Symbols => roles::facts(alloc, source),
-        Subject::Sources => values::facts(alloc, source),
         Subject::Chains => symbols::chain_facts(alloc, source),
         Subject::Casts => symbols::cast_facts(alloc, source),
         Subject::Tested => references::tested_facts(alloc, source),

@@ -27,13 +27,12 @@ mod sources;
 mod symbols;
 mod tokens;
 mod trees;
-mod values;
 
 use facts::Subject;
 use std::{fs, io};
 
 /// The files of rows, and what each is about.
-const FILES: [(&str, Subject); 24] = [
+const FILES: [(&str, Subject); 23] = [
     ("names", Subject::Names),
     ("places", Subject::Places),
     ("tokens", Subject::Tokens),
@@ -44,7 +43,6 @@ const FILES: [(&str, Subject); 24] = [
     ("spans", Subject::Spans),
     ("scopes", Subject::Scopes),
     ("symbols", Subject::Symbols),
-    ("sources", Subject::Sources),
     ("chains", Subject::Chains),
     ("casts", Subject::Casts),
     ("edges", Subject::Edges),
